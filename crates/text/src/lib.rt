@@ -1,0 +1,1 @@
+// Lines, words, numbers and byte strings.
