@@ -1,9 +1,8 @@
 -- A drive's whole meaning as one value, what the operations make of it, and what every make owes.
 use Prim.Native.Nat.{ℕ}
 use mathlib.Core.Path.{_≡_}
-use mathlib.Core.Bool.{Bool, true, false, _&&_}
+use mathlib.Core.Bool.{Bool, true, false, not, _&&_}
 use mathlib.Core.List.{List}
-use mathlib.Core.Logic.{_↔_}
 use lib.Dec.{eqb}
 use lib.IntN.{ℤ, pos}
 use Rattle.std.specs.Options.{isSome}
@@ -63,12 +62,14 @@ taken target d = nowHolding (takenHeld target (refusedBy target d) (d .held)) d
 abbrev pub takeAnswer : Target → DriveMeaning → Result (Unit {0}) Refusal
 takeAnswer target d = answered (refusedBy target d)
 
+-- Power on, no trouble, and the target admitted at the position held.
+abbrev pub fitToTake : Make → Held → Target → Bool
+fitToTake make h target = (h .powered && eqb (h .trouble) 0) && make .admits (h .position) target
+
 -- What every make owes.
 pub record Lawful (make : Make) : Type 0 where
   pub mode-zero-known : make .knows (pos 0) ≡ true
   pub mode-zero-admits-nothing : (position value : ℤ) → make .admits position (record { mode = pos 0; value = value }) ≡ false
   pub admitted-is-known : (position : ℤ) (target : Target) → make .admits position target ≡ true → make .knows (target .mode) ≡ true
   -- a target is taken exactly with power, without trouble and with admission
-  pub taken-exactly :
-    (h : Held) (target : Target)
-    → isSome (make .refuses h target) ≡ false ↔ ((h .powered ≡ true) × (h .trouble ≡ 0) × (make .admits (h .position) target ≡ true))
+  pub taken-exactly-when-fit : (h : Held) (target : Target) → isSome (make .refuses h target) ≡ not (fitToTake make h target)
