@@ -11,7 +11,7 @@ use Rattle.std.specs.declared.result.Result.{Result}
 use Rattle.drives.specs.declared.target.Target.{Target}
 use Rattle.drives.specs.declared.target.Refusal.{Refusal}
 use Rattle.drives.specs.declared.held.Held.{Held}
-use Rattle.drives.specs.Holdings.{Reading, energisedHeld, deEnergisedHeld, holding, readHeld, takenHeld, answered}
+use Rattle.drives.specs.Holdings.{Reading, energisedHeld, deEnergisedHeld, holding, readHeld, ownRefusal, takenHeld, answered}
 
 -- What belongs to the make and never changes. Admission sees the held position and nothing else that is held.
 pub record Make : Type 0 where
@@ -23,6 +23,16 @@ pub record Make : Type 0 where
   pub refuses : Held → Target → Option Refusal
   -- what a field record reads as
   pub reads : Held → List ℕ → Reading
+
+-- The make of a drive that stands alone, without a window: it refuses for its own reasons.
+abbrev pub ownMake : (ℤ → Bool) → (ℤ → Target → Bool) → (Held → List ℕ → Reading) → Make
+ownMake knows admits reads =
+    record {
+      knows = knows;
+      admits = admits;
+      refuses = λ h target. ownRefusal h (knows (target .mode)) (admits (h .position) target);
+      reads = reads;
+    }
 
 pub record DriveMeaning : Type 0 where
   pub held : Held

@@ -1,0 +1,3 @@
+mod LowestBit
+mod OwnLaws
+mod Products

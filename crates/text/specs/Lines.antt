@@ -1,0 +1,60 @@
+-- A line and its words.
+use Prim.Native.Nat.{ℕ, _-_}
+use mathlib.Core.Bool.{Bool, cond, not, _||_}
+use mathlib.Core.List.{List, [], _∷_, _++_}
+use lib.Dec.{eqb}
+use lib.ListN.{length, getD, take}
+use Rattle.std.specs.shelf.Lists.{leading}
+use Rattle.std.specs.declared.option.Option.{Option}
+use Rattle.std.specs.declared.option.Option.the-variants.{Some, None}
+use Rattle.text.specs.declared.words.Class.{Class}
+use Rattle.text.specs.declared.words.Class.the-variants.{Blank, NotBlank, NotHash}
+use Rattle.text.specs.declared.words.Words.{Words}
+
+-- a space or a tab
+abbrev pub isBlank : ℕ → Bool
+isBlank b = eqb b 32 || eqb b 9
+
+abbrev pub isHash : ℕ → Bool
+isHash b = eqb b 35
+
+-- One carriage return at the very end goes.
+abbrev pub withoutReturn : List ℕ → List ℕ
+withoutReturn line = cond (eqb (getD line (length line - 1) 0) 13) (take (length line - 1) line) line
+
+-- What stands before the first '#'.
+abbrev pub withoutComment : List ℕ → List ℕ
+withoutComment line = take (leading (λ b. not (isHash b)) line) line
+
+-- The list of a word, where it is one.
+abbrev pub unlessEmpty : List ℕ → List (List ℕ)
+unlessEmpty [] = []
+unlessEmpty (b ∷ bs) = (b ∷ bs) ∷ []
+
+-- The words of a text that follows the bytes of a word, which ends at the next blank.
+abbrev pub wordsAfter : List ℕ → List ℕ → List (List ℕ)
+wordsAfter word [] = unlessEmpty word
+wordsAfter word (b ∷ bs) = cond (isBlank b) (unlessEmpty word ++ wordsAfter [] bs) (wordsAfter (word ++ b ∷ []) bs)
+
+abbrev pub wordsIn : List ℕ → List (List ℕ)
+wordsIn text = wordsAfter [] text
+
+-- The words of a line.
+abbrev pub wordsOf : List ℕ → List (List ℕ)
+wordsOf line = wordsIn (withoutComment (withoutReturn line))
+
+abbrev pub wordsLeft : Words → List (List ℕ)
+wordsLeft words = wordsIn (words .rest .now)
+
+abbrev pub firstWord : List (List ℕ) → Option (List ℕ)
+firstWord [] = None
+firstWord (w ∷ ws) = Some w
+
+abbrev pub otherWords : List (List ℕ) → List (List ℕ)
+otherWords [] = []
+otherWords (w ∷ ws) = ws
+
+abbrev pub has : Class → ℕ → Bool
+has Blank b = isBlank b
+has NotBlank b = not (isBlank b)
+has NotHash b = not (isHash b)
