@@ -1,1 +1,4 @@
+mod ByteLaws
 mod LineLaws
+mod NumberLaws
+mod RangeLaws

@@ -1,4 +1,9 @@
 // What is wrong with a word.
+ghost use mathlib.Core.Path.{_≡_};
+ghost use Rattle.text.specs.declared.fault.Fault.the-variants.{NoMemory};
+
+use std::alloc::Refused;
+
 #[derive(Clone, Copy, Debug, PartialEq, Eq)]
 pub enum Fault {
     NotANumber,
@@ -6,4 +11,12 @@ pub enum Fault {
     NotBytes,
     OddDigits,
     NoMemory,
+}
+
+pub impl<T: Drop> From<Refused<T>> for Fault as FaultFromRefused {
+    ghost converts = { λ _ r. r ≡ NoMemory };
+
+    fn from(_e: Refused<T>) -> Fault {
+        Fault::NoMemory
+    }
 }
