@@ -12,7 +12,7 @@ use Rattle.banks.specs.Lists.{most, absent, driveAt, changed, AllLawful}
 use Rattle.banks.specs.Pairs.{sideBySide, FoundAt}
 
 -- to cut a list and to change one of its elements go in either order
-take-set : {X : Type 0} (n : ℕ) (xs : List X) (i : ℕ) (x : X) → take n (set xs i x) ≡ set (take n xs) i x
+pub take-set : {X : Type 0} (n : ℕ) (xs : List X) (i : ℕ) (x : X) → take n (set xs i x) ≡ set (take n xs) i x
 take-set zero xs i x = refl
 take-set (suc n) [] i x = refl
 take-set (suc n) (y ∷ ys) zero x = refl

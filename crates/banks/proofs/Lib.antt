@@ -1,2 +1,2 @@
-mod Found
-mod Swept
+pub mod Found
+pub mod Swept

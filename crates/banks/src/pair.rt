@@ -9,6 +9,7 @@ use drives::target::Refusal;
 use drives::target::Target;
 
 // Two banks side by side, so that hoists and cylinders mix. The first one's drives are numbered first.
+#[derive(Drop)]
 pub struct Pair<A, B> {
     first: A,
     second: B,

@@ -1,1 +1,1 @@
-mod WindowLaws
+pub mod WindowLaws

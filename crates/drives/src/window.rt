@@ -47,6 +47,7 @@ impl Limits {
 }
 
 // A window: limits over any drive, and itself a drive. What the limits let pass goes down to the drive below.
+#[derive(Drop)]
 pub struct Window<D> {
     limits: Limits,
     below: D,

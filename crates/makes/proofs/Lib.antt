@@ -1,3 +1,4 @@
-mod LowestBit
-mod OwnLaws
-mod Products
+pub mod LowestBit
+pub mod MakeLaws
+pub mod OwnLaws
+pub mod Products

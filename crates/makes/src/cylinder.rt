@@ -19,6 +19,7 @@ use drives::target::Target;
 const SENSOR_TROUBLE: u16 = 0x7300;
 
 // A cylinder, known by the scale of its position sensor.
+#[derive(Drop)]
 pub struct Cylinder {
     scale: Scale,
     held: Held,
@@ -30,7 +31,7 @@ impl Cylinder {
         ensures { λ r. ⌜ cylinderIs r ≡ cylinderMeaning (scaleKept k) atRest ⌝ }
     {
         Cylinder {
-            scale: Scale::brought_into_range(k),
+            scale: Scale::new(k),
             held: Held::at_rest(),
         }
     }

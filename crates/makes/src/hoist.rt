@@ -16,6 +16,7 @@ use drives::target::Target;
 
 // A hoist: its lowest and highest position, and its greatest speed either way.
 // Lowest above highest is left as it is, and admits no position.
+#[derive(Drop)]
 pub struct Hoist {
     lowest: i32,
     highest: i32,

@@ -11,7 +11,8 @@ use Rattle.std.specs.declared.option.Option.{Option}
 use Rattle.std.specs.declared.option.Option.the-variants.{Some, None}
 use Rattle.std.proofs.shelf.Lists.{at-drop-more, at-drop-all, take-rest}
 use Rattle.std.proofs.shelf.Tests.{and-from, cases-lt, cond-true, eq-eqb}
-use Rattle.text.specs.Numerals.{digitIn, andThen, valueAfter, digitsValue, naturalOf, past, kept}
+use Rattle.text.specs.Kept.{past, kept}
+use Rattle.text.specs.Numerals.{digitIn, andThen, valueAfter, digitsValue, naturalOf}
 
 no-less : (n base : ℕ) → 0 < base → n ≤ n * base
 no-less n base some = omega (arith, mul-le-mul-left n some, mul-one n)

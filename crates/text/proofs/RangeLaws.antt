@@ -18,7 +18,8 @@ use Rattle.std.proofs.shelf.Lists.{take-rest}
 use Rattle.std.proofs.shelf.Signed.{ints}
 use Rattle.std.proofs.shelf.Tests.{and-from, cond-true, cond-false, eq-eqb}
 use Rattle.text.specs.declared.fault.Fault.the-variants.{OutOfRange}
-use Rattle.text.specs.Numerals.{digitsValue, minus, integerOf, within, past, kept, keptInteger}
+use Rattle.text.specs.Kept.{past, kept, keptInteger}
+use Rattle.text.specs.Numerals.{digitsValue, minus, integerOf, within}
 
 minus-kept : (n : ℕ) → minus (kept n) ≡ keptInteger (minus n)
 minus-kept n = grind (arith, ints)

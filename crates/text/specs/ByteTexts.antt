@@ -60,5 +60,5 @@ memoryFailed (Ok v) = false
 memoryFailed (Err e) = isNoMemory e
 
 -- The answer where memory may fail: only good bytes want memory.
-abbrev pub unless : Bool → Result (List ℕ) Fault → Result (List ℕ) Fault
-unless failed answer = cond (failed && isOk answer) (Err NoMemory) answer
+abbrev pub orNoMemory : Bool → Result (List ℕ) Fault → Result (List ℕ) Fault
+orNoMemory failed answer = cond (failed && isOk answer) (Err NoMemory) answer

@@ -7,8 +7,6 @@ use lib.ListN.{length, getD, take}
 use Rattle.std.specs.shelf.Lists.{leading}
 use Rattle.std.specs.declared.option.Option.{Option}
 use Rattle.std.specs.declared.option.Option.the-variants.{Some, None}
-use Rattle.text.specs.declared.words.Class.{Class}
-use Rattle.text.specs.declared.words.Class.the-variants.{Blank, NotBlank, NotHash}
 use Rattle.text.specs.declared.words.Words.{Words}
 
 -- a space or a tab
@@ -26,12 +24,12 @@ withoutReturn line = cond (eqb (getD line (length line - 1) 0) 13) (take (length
 abbrev pub withoutComment : List ℕ → List ℕ
 withoutComment line = take (leading (λ b. not (isHash b)) line) line
 
--- The list of a word, where it is one.
+-- An empty word is none.
 abbrev pub unlessEmpty : List ℕ → List (List ℕ)
 unlessEmpty [] = []
 unlessEmpty (b ∷ bs) = (b ∷ bs) ∷ []
 
--- The words of a text that follows the bytes of a word, which ends at the next blank.
+-- The words of a text, after the bytes of a word that has begun: a blank ends it, every other byte belongs to it.
 abbrev pub wordsAfter : List ℕ → List ℕ → List (List ℕ)
 wordsAfter word [] = unlessEmpty word
 wordsAfter word (b ∷ bs) = cond (isBlank b) (unlessEmpty word ++ wordsAfter [] bs) (wordsAfter (word ++ b ∷ []) bs)
@@ -39,10 +37,11 @@ wordsAfter word (b ∷ bs) = cond (isBlank b) (unlessEmpty word ++ wordsAfter []
 abbrev pub wordsIn : List ℕ → List (List ℕ)
 wordsIn text = wordsAfter [] text
 
--- The words of a line.
+-- The words of a line. A carriage return before a comment is not at the end of the line.
 abbrev pub wordsOf : List ℕ → List (List ℕ)
 wordsOf line = wordsIn (withoutComment (withoutReturn line))
 
+-- The words that are still to come.
 abbrev pub wordsLeft : Words → List (List ℕ)
 wordsLeft words = wordsIn (words .rest .now)
 
@@ -53,8 +52,3 @@ firstWord (w ∷ ws) = Some w
 abbrev pub otherWords : List (List ℕ) → List (List ℕ)
 otherWords [] = []
 otherWords (w ∷ ws) = ws
-
-abbrev pub has : Class → ℕ → Bool
-has Blank b = isBlank b
-has NotBlank b = not (isBlank b)
-has NotHash b = not (isHash b)

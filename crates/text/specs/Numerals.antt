@@ -1,12 +1,11 @@
 -- Numbers: decimal digits, or hexadecimal ones after '0x'.
-use Prim.Native.Nat.{ℕ, _+_, _*_, min}
+use Prim.Native.Nat.{ℕ, _+_, _*_}
 use mathlib.Core.Bool.{Bool, cond, _&&_}
 use mathlib.Core.List.{List, [], _∷_}
 use lib.Dec.{eqb, leb, ltb}
 use lib.IntN.{ℤ, pos, negℤ}
 use lib.ListN.{getD, drop}
 use lib.Signed.{leZ}
-use Rattle.std.specs.Numbers.{minZ, maxZ}
 use Rattle.std.specs.Options.{mapped}
 use Rattle.std.specs.declared.option.Option.{Option}
 use Rattle.std.specs.declared.option.Option.the-variants.{Some, None}
@@ -70,13 +69,3 @@ unsignedOf highest word = upTo highest (naturalOf word)
 -- The value of a word that is to be a signed number.
 abbrev pub signedOf : ℤ → ℤ → List ℕ → Result ℤ Fault
 signedOf lowest highest word = within lowest highest (integerOf word)
-
--- The code keeps a value past every range as 2 ^ 32, or as its negative.
-abbrev pub past : ℕ
-past = 4294967296
-
-abbrev pub kept : ℕ → ℕ
-kept n = min n past
-
-abbrev pub keptInteger : ℤ → ℤ
-keptInteger z = maxZ (minus past) (minZ z (pos past))

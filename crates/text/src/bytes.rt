@@ -3,14 +3,12 @@ ghost use mathlib.Core.Path.{_≡_};
 ghost use Prim.Native.Nat.{_<_};
 ghost use Rattle.std.specs.Of.Vec.{vec-items};
 ghost use Rattle.std.specs.Results.{Cases};
-ghost use Rattle.text.specs.ByteTexts.{allDigits, digitValue, pairsOf, bytesOf, given, memoryFailed, unless};
+ghost use Rattle.text.specs.ByteTexts.{allDigits, digitValue, pairsOf, bytesOf, given, memoryFailed, orNoMemory};
 ghost use Rattle.text.specs.declared.fault.Fault.the-variants.{NoMemory};
-
-use std::alloc::Global;
-
 use crate::digits::digit;
 use crate::fault::Fault;
 use crate::fault::FaultFromRefused;
+use std::alloc::Global;
 
 fn all_digits(word: &[u8]) -> bool
     ensures { λ r. ⌜ r ≡ allDigits (now (word .entry)) ⌝ }
@@ -27,10 +25,7 @@ fn digit_value(byte: u8) -> u8
     ensures value { λ r. ⌜ r ≡ digitValue byte ⌝ }
     ensures small { λ r. ⌜ r < 16 ⌝ }
 {
-    match digit(byte) {
-        Some(value) => value,
-        None => 0,
-    }
+    digit(byte).unwrap_or(0)
 }
 
 fn pairs(heap: Global, word: &[u8]) -> Result<Vec<u8>, Fault>
@@ -47,7 +42,7 @@ fn pairs(heap: Global, word: &[u8]) -> Result<Vec<u8>, Fault>
 
 // The bytes that the word is.
 pub fn bytes(heap: Global, word: &[u8]) -> Result<Vec<u8>, Fault>
-    ensures { λ r. ⌜ given r ≡ unless (memoryFailed r) (bytesOf (now (word .entry))) ⌝ }
+    ensures { λ r. ⌜ given r ≡ orNoMemory (memoryFailed r) (bytesOf (now (word .entry))) ⌝ }
 {
     if let [b'-'] = word {
         return Ok(Vec::new(heap));

@@ -1,7 +1,6 @@
 // What is wrong with a word.
 ghost use mathlib.Core.Path.{_≡_};
 ghost use Rattle.text.specs.declared.fault.Fault.the-variants.{NoMemory};
-
 use std::alloc::Refused;
 
 #[derive(Clone, Copy, Debug, PartialEq, Eq)]

@@ -2,8 +2,8 @@
 ghost use mathlib.Core.Path.{_≡_};
 ghost use Prim.Native.Nat.{_<_, _≤_};
 ghost use Rattle.std.specs.Options.{mapped};
-ghost use Rattle.text.specs.Numerals.{digitIn, digitsValue, naturalOf, integerOf, unsignedOf, signedOf, kept, keptInteger};
-
+ghost use Rattle.text.specs.Kept.{kept, keptInteger};
+ghost use Rattle.text.specs.Numerals.{digitIn, digitsValue, naturalOf, integerOf, unsignedOf, signedOf};
 use crate::digits::digit;
 use crate::fault::Fault;
 
@@ -48,14 +48,8 @@ fn integer(word: &[u8]) -> Option<i64>
     ensures { λ r. ⌜ r ≡ mapped keptInteger (integerOf (now (word .entry))) ⌝ }
 {
     match word {
-        [b'-', digits @ ..] => match digits_value(10, digits) {
-            Some(value) => Some(-(value as i64)),
-            None => None,
-        },
-        _ => match natural(word) {
-            Some(value) => Some(value as i64),
-            None => None,
-        },
+        [b'-', digits @ ..] => Some(-(digits_value(10, digits)? as i64)),
+        _ => Some(natural(word)? as i64),
     }
 }
 
@@ -63,30 +57,24 @@ fn integer(word: &[u8]) -> Option<i64>
 pub fn unsigned(word: &[u8], highest: u32) -> Result<u32, Fault>
     ensures { λ r. ⌜ r ≡ unsignedOf highest (now (word .entry)) ⌝ }
 {
-    match natural(word) {
-        Some(value) => {
-            if value <= u64::from(highest) {
-                Ok(value as u32)
-            } else {
-                Err(Fault::OutOfRange)
-            }
-        }
-        None => Err(Fault::NotANumber),
+    let Some(value) = natural(word) else {
+        return Err(Fault::NotANumber);
+    };
+    if value > u64::from(highest) {
+        return Err(Fault::OutOfRange);
     }
+    Ok(value as u32)
 }
 
 // The number from `lowest` to `highest` that the word is.
 pub fn signed(word: &[u8], lowest: i32, highest: i32) -> Result<i32, Fault>
     ensures { λ r. ⌜ r ≡ signedOf lowest highest (now (word .entry)) ⌝ }
 {
-    match integer(word) {
-        Some(value) => {
-            if i64::from(lowest) <= value && value <= i64::from(highest) {
-                Ok(value as i32)
-            } else {
-                Err(Fault::OutOfRange)
-            }
-        }
-        None => Err(Fault::NotANumber),
+    let Some(value) = integer(word) else {
+        return Err(Fault::NotANumber);
+    };
+    if value < i64::from(lowest) || value > i64::from(highest) {
+        return Err(Fault::OutOfRange);
     }
+    Ok(value as i32)
 }

@@ -4,10 +4,11 @@ ghost use Prim.Native.Nat.{_≤_};
 ghost use lib.ListN.{length};
 ghost use Rattle.std.specs.Options.{mapped};
 ghost use Rattle.std.specs.shelf.Lists.{leading};
-ghost use Rattle.text.specs.Lines.{has, withoutReturn, withoutComment, wordsOf, wordsLeft, firstWord, otherWords};
+ghost use Rattle.text.specs.Classes.{has};
+ghost use Rattle.text.specs.Lines.{withoutReturn, withoutComment, wordsOf, wordsLeft, firstWord, otherWords};
 
 // The words of a line that are still to come.
-#[derive(Clone, Copy)]
+#[derive(Drop)]
 pub struct Words<'a> {
     rest: &'a [u8],
 }

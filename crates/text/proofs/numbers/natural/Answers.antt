@@ -1,7 +1,7 @@
 use mathlib.Core.Path.{sym, ap, _∙_}
 use native.Mathlib.Omega.{arith}
 use Rattle.std.specs.Options.{mapped}
-use Rattle.text.specs.Numerals.{kept}
+use Rattle.text.specs.Kept.{kept}
 use Rattle.text.proofs.NumberLaws.{hexadecimal-is}
 use Rattle.text.proofs.numbers.natural.Needs as need
 

@@ -12,14 +12,14 @@ pub returns-then-value-from : need.returns-then-value-from
 returns-then-value-from c =
     let v = c .in-Some .value in
     let small = kept-small v (integerOf (c .args .word .now)) (c .in-Some .ensures tt) in
+    let out : (leZ (c .args .lowest) v && leZ v (c .args .highest)) ≡ false = grind (arith, ints) in
+    outside (c .args .lowest) (c .args .highest) (c .fits .lowest) (c .fits .highest) v (integerOf (c .args .word .now)) (c .in-Some .ensures tt) out
+
+pub returns : need.returns
+returns c =
+    let v = c .in-Some .value in
+    let small = kept-small v (integerOf (c .args .word .now)) (c .in-Some .ensures tt) in
     let above : leZ (c .args .lowest) v ≡ true = grind (arith, ints) in
     let below : leZ v (c .args .highest) ≡ true = grind (arith, ints) in
     let same = cast-inside (c .args .lowest) (c .args .highest) (c .fits .lowest) (c .fits .highest) v above below in
     ap Ok same ∙ inside (c .args .lowest) (c .args .highest) (c .fits .lowest) (c .fits .highest) v (integerOf (c .args .word .now)) (c .in-Some .ensures tt) above below
-
-pub returns-else-from-value : need.returns-else-from-value
-returns-else-from-value c =
-    let v = c .in-Some .value in
-    let small = kept-small v (integerOf (c .args .word .now)) (c .in-Some .ensures tt) in
-    let out : (leZ (c .args .lowest) v && leZ v (c .args .highest)) ≡ false = grind (arith, ints) in
-    outside (c .args .lowest) (c .args .highest) (c .fits .lowest) (c .fits .highest) v (integerOf (c .args .word .now)) (c .in-Some .ensures tt) out

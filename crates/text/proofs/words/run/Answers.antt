@@ -1,7 +1,7 @@
 use mathlib.Core.Path.{sym}
 use native.Mathlib.Omega.{arith}
 use Rattle.std.proofs.shelf.Sums.{leading-drop-yes, leading-drop-no, leading-drop-all}
-use Rattle.text.specs.Lines.{has}
+use Rattle.text.specs.Classes.{has}
 use Rattle.text.proofs.words.run.Needs as need
 
 pub loop-n-again : need.loop-n-again

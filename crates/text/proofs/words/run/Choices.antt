@@ -2,7 +2,7 @@ use Prim.Native.Nat.{_+_, _-_, _≤_}
 use mathlib.Core.Path.{_≡_}
 use lib.ListN.{length, drop}
 use Rattle.std.specs.shelf.Lists.{leading}
-use Rattle.text.specs.Lines.{has}
+use Rattle.text.specs.Classes.{has}
 use Rattle.text.proofs.words.run.Given as given
 
 abbrev pub Inv-loop-n : given.InvT-loop-n

@@ -1,7 +1,6 @@
-use mathlib.Core.Path.{refl}
-use native.Mathlib.Omega.{arith}
-use Rattle.makes.proofs.OwnLaws.{own-lawful}
+use Rattle.makes.specs.Cylinders.{scaleKept}
+use Rattle.makes.proofs.MakeLaws.{cylinder-lawful}
 use Rattle.makes.proofs.cylinder.CylinderDrive.the-impl.Needs as need
 
 pub lawful-law : need.lawful-law
-lawful-law d = own-lawful _ _ _ refl (λ position value. refl) (λ position target admitted. grind arith)
+lawful-law d = cylinder-lawful (scaleKept (d .scale .given))

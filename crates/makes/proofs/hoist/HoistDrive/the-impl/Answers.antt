@@ -1,7 +1,5 @@
-use mathlib.Core.Path.{refl}
-use native.Mathlib.Omega.{arith}
-use Rattle.makes.proofs.OwnLaws.{own-lawful}
+use Rattle.makes.proofs.MakeLaws.{hoist-lawful}
 use Rattle.makes.proofs.hoist.HoistDrive.the-impl.Needs as need
 
 pub lawful-law : need.lawful-law
-lawful-law d = own-lawful _ _ _ refl (λ position value. refl) (λ position target admitted. grind arith)
+lawful-law d = hoist-lawful (d .lowest) (d .highest) (d .«greatest_speed»)
