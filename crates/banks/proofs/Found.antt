@@ -23,12 +23,12 @@ module _ (first second : List DriveMeaning) (few : length first ≤ most) (i : �
   pub found-first : i < length first → FoundAt first second i (First i)
   found-first below =
       let there : driveAt (sideBySide first second) i ≡ driveAt first i =
-          getD-take most (first ++ second) i absent (omega arith) ∙ getD-append-left first second absent i below in
+      getD-take most (first ++ second) i absent (omega arith) ∙ getD-append-left first second absent i below in
       record {
         there = there;
         changes = λ f after is. rw (is, there)
-          (ap (take most) (sym (set-append-left first second i (f (driveAt first i)) below))
-          ∙ take-set most (first ++ second) i (f (driveAt first i)));
+            (ap (take most) (sym (set-append-left first second i (f (driveAt first i)) below))
+            ∙ take-set most (first ++ second) i (f (driveAt first i)));
       }
 
   -- a number past both is beyond the first bank too
@@ -38,19 +38,19 @@ module _ (first second : List DriveMeaning) (few : length first ≤ most) (i : �
       record {
         there = getD-past (sideBySide first second) i absent cut ∙ sym (getD-past first i absent (omega arith));
         changes = λ f after is. rw (is, set-past first i (f (driveAt first i)) (omega arith))
-          (sym (set-past (sideBySide first second) i (f (driveAt (sideBySide first second) i)) cut));
+            (sym (set-past (sideBySide first second) i (f (driveAt (sideBySide first second) i)) cut));
       }
 
   -- the second bank counts on from the first
   pub found-second : length first ≤ i → i < most → FoundAt first second i (Second (i - length first))
   found-second past below =
       let there : driveAt (sideBySide first second) i ≡ driveAt second (i - length first) =
-          getD-take most (first ++ second) i absent below ∙ getD-append-right first second (length first) i absent refl past in
+      getD-take most (first ++ second) i absent below ∙ getD-append-right first second (length first) i absent refl past in
       record {
         there = there;
         changes = λ f after is. rw (is, there)
-          (ap (take most) (sym (set-append-right first second (length first) i (f (driveAt second (i - length first))) refl past))
-          ∙ take-set most (first ++ second) i (f (driveAt second (i - length first))));
+            (ap (take most) (sym (set-append-right first second (length first) i (f (driveAt second (i - length first))) refl past))
+            ∙ take-set most (first ++ second) i (f (driveAt second (i - length first))));
       }
 
 pub lawful-side-by-side : (first second : List DriveMeaning) → AllLawful first → AllLawful second → AllLawful (sideBySide first second)

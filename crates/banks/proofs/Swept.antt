@@ -18,8 +18,8 @@ module _ (f : DriveMeaning → DriveMeaning) (drives : List DriveMeaning) where
       let front : length (map f (take i drives)) ≡ i = length-map (take i drives) f ∙ length-take-le i drives (omega arith) in
       let split : drop i drives ≡ driveAt drives i ∷ drop (i + 1) drives = drop-more drives i absent within in
       let read : driveAt (sweptTo f drives i) i ≡ driveAt drives i =
-          ap (λ rest. getD (map f (take i drives) ++ rest) i absent) split
-          ∙ getD-at (map f (take i drives)) (driveAt drives i) (drop (i + 1) drives) absent i front in
+      ap (λ rest. getD (map f (take i drives) ++ rest) i absent) split
+      ∙ getD-at (map f (take i drives)) (driveAt drives i) (drop (i + 1) drives) absent i front in
       ap (λ d. set (sweptTo f drives i) i (f d)) read
       ∙ ap (λ rest. set (map f (take i drives) ++ rest) i (f (driveAt drives i))) split
       ∙ set-at (map f (take i drives)) (driveAt drives i) (drop (i + 1) drives) (f (driveAt drives i)) i front

@@ -5,7 +5,6 @@ ghost use Prim.Native.Nat.{_≤_};
 ghost use lib.ListN.{length};
 ghost use Rattle.drives.specs.Meaning.{DriveMeaning, energised, deEnergised, held-still, sampled, taken, takeAnswer, knownBy, admittedBy, refusedBy, readingOf};
 ghost use Rattle.banks.specs.Lists.{most, driveAt, changed, AllLawful};
-
 use drives::drive::RECORD_LENGTH;
 use drives::held::Held;
 use drives::target::Refusal;

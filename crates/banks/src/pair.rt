@@ -1,7 +1,6 @@
 // Two banks side by side are again a bank.
 ghost use mathlib.Core.Path.{_≡_};
 ghost use Rattle.banks.specs.Pairs.{sideBySide, FoundAt};
-
 use crate::bank::Bank;
 use drives::drive::RECORD_LENGTH;
 use drives::held::Held;

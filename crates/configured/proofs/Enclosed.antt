@@ -18,33 +18,33 @@ use Rattle.configured.specs.Enclosures.{enclosed}
 
 -- an operation that goes through one window goes through all of them
 pub through :
-  (f : DriveMeaning → DriveMeaning)
-  → ((limits : Limits) (drive : DriveMeaning) → f (windowed limits drive) ≡ windowed limits (f drive))
-  → (drive : DriveMeaning) (windows : List Limits) → f (enclosed drive windows) ≡ enclosed (f drive) windows
+    (f : DriveMeaning → DriveMeaning)
+    → ((limits : Limits) (drive : DriveMeaning) → f (windowed limits drive) ≡ windowed limits (f drive))
+    → (drive : DriveMeaning) (windows : List Limits) → f (enclosed drive windows) ≡ enclosed (f drive) windows
 through f one drive [] = refl
 through f one drive (w ∷ ws) = through f one (windowed w drive) ws ∙ ap (λ d. enclosed d ws) (one w drive)
 
 -- what is seen through one window is seen through all of them
 pub seen :
-  {X : Type 0} (q : DriveMeaning → X)
-  → ((limits : Limits) (drive : DriveMeaning) → q (windowed limits drive) ≡ q drive)
-  → (drive : DriveMeaning) (windows : List Limits) → q (enclosed drive windows) ≡ q drive
+    {X : Type 0} (q : DriveMeaning → X)
+    → ((limits : Limits) (drive : DriveMeaning) → q (windowed limits drive) ≡ q drive)
+    → (drive : DriveMeaning) (windows : List Limits) → q (enclosed drive windows) ≡ q drive
 seen q one drive [] = refl
 seen q one drive (w ∷ ws) = seen q one (windowed w drive) ws ∙ one w drive
 
 module _ (target : Target) where
   -- the refusal, gathered from the innermost window outwards
   pub refusal-gathered :
-    (drive : DriveMeaning) (windows : List Limits)
-    → refusedBy target (enclosed drive windows)
-    ≡ folded (λ below limits. refusalAbove limits (drive .held .position) target below) (refusedBy target drive) windows
+      (drive : DriveMeaning) (windows : List Limits)
+      → refusedBy target (enclosed drive windows)
+      ≡ folded (λ below limits. refusalAbove limits (drive .held .position) target below) (refusedBy target drive) windows
   refusal-gathered drive [] = refl
   refusal-gathered drive (w ∷ ws) = refusal-gathered (windowed w drive) ws
 
   pub admission-gathered :
-    (drive : DriveMeaning) (windows : List Limits)
-    → admittedBy target (enclosed drive windows)
-    ≡ folded (λ below limits. not (keepsOut limits (drive .held .position) target) && below) (admittedBy target drive) windows
+      (drive : DriveMeaning) (windows : List Limits)
+      → admittedBy target (enclosed drive windows)
+      ≡ folded (λ below limits. not (keepsOut limits (drive .held .position) target) && below) (admittedBy target drive) windows
   admission-gathered drive [] = refl
   admission-gathered drive (w ∷ ws) = admission-gathered (windowed w drive) ws
 
@@ -67,9 +67,9 @@ module _ (target : Target) where
   taken-free drive free = ap (λ r. nowHolding (takenHeld target r (drive .held)) drive) free
 
   pub taken-through :
-    (drive : DriveMeaning) (windows : List Limits)
-    → refusedBy target (enclosed drive windows) ≡ None
-    → taken target (enclosed drive windows) ≡ enclosed (taken target drive) windows
+      (drive : DriveMeaning) (windows : List Limits)
+      → refusedBy target (enclosed drive windows) ≡ None
+      → taken target (enclosed drive windows) ≡ enclosed (taken target drive) windows
   unfolding carrying
   taken-through drive windows free =
       taken-free (enclosed drive windows) free
@@ -77,9 +77,9 @@ module _ (target : Target) where
       ∙ ap (λ d. enclosed d windows) (sym (taken-free drive (none-below drive windows free)))
 
   pub answer-free :
-    (drive : DriveMeaning) (windows : List Limits)
-    → refusedBy target (enclosed drive windows) ≡ None
-    → takeAnswer target drive ≡ takeAnswer target (enclosed drive windows)
+      (drive : DriveMeaning) (windows : List Limits)
+      → refusedBy target (enclosed drive windows) ≡ None
+      → takeAnswer target drive ≡ takeAnswer target (enclosed drive windows)
   answer-free drive windows free = ap answered (none-below drive windows free ∙ sym free)
 
 pub enclosed-lawful : (drive : DriveMeaning) (windows : List Limits) → Lawful (drive .make) → Lawful (enclosed drive windows .make)

@@ -22,14 +22,14 @@ module _ {D : Type 0} (meaning : D → DriveMeaning) (drives : List D) where
   at-place i of-bank =
       let inside : i < length drives = omega (arith, row-count) in
       let there : (d : D) → d ≡ getD drives i d → driveAt (inRow meaning drives) i ≡ meaning d =
-          λ d read. getD-take most (map meaning drives) i absent (omega (arith, row-count)) ∙ getD-map meaning drives i d absent inside ∙ ap meaning (sym read) in
+      λ d read. getD-take most (map meaning drives) i absent (omega (arith, row-count)) ∙ getD-map meaning drives i d absent inside ∙ ap meaning (sym read) in
       record {
         inside = inside;
         there = there;
         changes = λ f d after read is.
-          ap (take most) (map-set meaning drives i after)
-          ∙ take-set most (map meaning drives) i (meaning after)
-          ∙ ap (set (inRow meaning drives) i) (is ∙ ap f (sym (there d read)));
+            ap (take most) (map-set meaning drives i after)
+            ∙ take-set most (map meaning drives) i (meaning after)
+            ∙ ap (set (inRow meaning drives) i) (is ∙ ap f (sym (there d read)));
       }
 
   pub beyond : (i : ℕ) → length (inRow meaning drives) ≤ i → Beyond (inRow meaning drives) i

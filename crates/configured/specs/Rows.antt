@@ -16,8 +16,8 @@ pub record AtPlace {D : Type 0} (meaning : D → DriveMeaning) (drives : List D)
   pub inside : k < length drives
   pub there : (d : D) → d ≡ getD drives k d → driveAt (inRow meaning drives) i ≡ meaning d
   pub changes :
-    (f : DriveMeaning → DriveMeaning) (d after : D)
-    → d ≡ getD drives k d → meaning after ≡ f (meaning d) → inRow meaning (set drives k after) ≡ changed f (inRow meaning drives) i
+      (f : DriveMeaning → DriveMeaning) (d after : D)
+      → d ≡ getD drives k d → meaning after ≡ f (meaning d) → inRow meaning (set drives k after) ≡ changed f (inRow meaning drives) i
 
 -- Number i is beyond the bank: nothing is there to be seen or changed.
 pub record Beyond (bank : List DriveMeaning) (i : ℕ) : Type 0 where

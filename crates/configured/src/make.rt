@@ -1,6 +1,5 @@
 // A make that is chosen at run time.
 ghost use Rattle.configured.specs.Makes.{makeIs};
-
 use drives::drive::Drive;
 use drives::drive::RECORD_LENGTH;
 use drives::held::Held;

@@ -5,7 +5,6 @@ ghost use mathlib.Core.List.{[], _∷_, _++_};
 ghost use Rattle.std.specs.Of.Vec.{vec-items};
 ghost use Rattle.std.specs.Results.{isOk};
 ghost use Rattle.configured.specs.Rows.{inRow, PlaceIs};
-
 use banks::bank::Bank;
 use banks::single::NO_DRIVE;
 use drives::drive::Drive;
@@ -29,7 +28,9 @@ impl<D: Drive> Row<D> {
     pub fn new(heap: Global) -> Row<D>
         ensures { λ r. ⌜ vec-items (r .drives) ≡ [] ⌝ }
     {
-        Row { drives: Vec::new(heap) }
+        Row {
+            drives: Vec::new(heap),
+        }
     }
 
     // One drive more at the end, or the drive back where memory is wanting.

@@ -2,7 +2,6 @@
 ghost use mathlib.Core.Path.{_≡_};
 ghost use Rattle.std.specs.Of.Vec.{vec-items};
 ghost use Rattle.configured.specs.Enclosures.{enclosed};
-
 use drives::drive::Drive;
 use drives::drive::RECORD_LENGTH;
 use drives::held::Held;

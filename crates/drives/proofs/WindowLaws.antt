@@ -17,9 +17,9 @@ use Rattle.drives.specs.Windows.{keepsOut, refusalAbove, windowMake, windowed}
 
 -- with the limits above, a target is refused that they keep out or that is refused below
 refused-above :
-  (out fit admitted : Bool) (r : Refusal) (below : Option Refusal)
-  → isSome below ≡ not (fit && admitted)
-  → isSome (cond out (Some r) (mapped deepened below)) ≡ not (fit && (not out && admitted))
+    (out fit admitted : Bool) (r : Refusal) (below : Option Refusal)
+    → isSome below ≡ not (fit && admitted)
+    → isSome (cond out (Some r) (mapped deepened below)) ≡ not (fit && (not out && admitted))
 refused-above true true admitted r below h = refl
 refused-above true false admitted r below h = refl
 refused-above false fit admitted r None h = h
@@ -31,9 +31,9 @@ window-lawful limits below law =
       mode-zero-known = law .mode-zero-known;
       mode-zero-admits-nothing = law .mode-zero-admits-nothing;
       admitted-is-known = λ position target admitted.
-        law .admitted-is-known position target (and-parts (not (keepsOut limits position target)) _ admitted .1);
+          law .admitted-is-known position target (and-parts (not (keepsOut limits position target)) _ admitted .1);
       taken-exactly-when-fit = λ h target.
-        refused-above (keepsOut limits (h .position) target) _ _ _ (below .refuses h target) (law .taken-exactly-when-fit h target);
+          refused-above (keepsOut limits (h .position) target) _ _ _ (below .refuses h target) (law .taken-exactly-when-fit h target);
     }
 
 -- What the drive below makes of a target that the limits let pass, seen through the window.
@@ -46,9 +46,9 @@ module _ (limits : Limits) (target : Target) (below : DriveMeaning) (passes : ke
   passed-carries after e = rw (e, passed-refusal) (go (refusedBy target below))
     where
       go :
-        (r : Option Refusal)
-        → windowed limits (nowHolding (takenHeld target r (below .held)) below)
-        ≡ nowHolding (takenHeld target (mapped deepened r) (below .held)) (windowed limits below)
+          (r : Option Refusal)
+          → windowed limits (nowHolding (takenHeld target r (below .held)) below)
+          ≡ nowHolding (takenHeld target (mapped deepened r) (below .held)) (windowed limits below)
       go None = refl
       go (Some r) = refl
 

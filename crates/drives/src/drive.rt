@@ -1,7 +1,6 @@
 // The trait that every make of drive stands behind.
 ghost use mathlib.Core.Path.{_≡_};
 ghost use Rattle.drives.specs.Meaning.{DriveMeaning, Lawful, energised, deEnergised, held-still, sampled, taken, takeAnswer, knownBy, admittedBy, refusedBy, readingOf};
-
 use crate::held::Held;
 use crate::target::Refusal;
 use crate::target::Target;

@@ -2,7 +2,6 @@
 ghost use mathlib.Core.Path.{_≡_};
 ghost use mathlib.Core.Bool.{Bool};
 ghost use Rattle.drives.specs.Holdings.{atRest, energisedHeld, deEnergisedHeld, holding, readHeld, ownRefusal, takenHeld, answered};
-
 use crate::target::Cause;
 use crate::target::Refusal;
 use crate::target::Target;
@@ -35,14 +34,14 @@ impl Held {
         ensures { λ _. ⌜ now (self .exit) ≡ energisedHeld (now (self .entry)) ⌝ }
     {
         self.powered = true;
-        self.carried = None;
+        self.hold();
     }
 
     pub fn de_energise(&mut self)
         ensures { λ _. ⌜ now (self .exit) ≡ deEnergisedHeld (now (self .entry)) ⌝ }
     {
         self.powered = false;
-        self.carried = None;
+        self.hold();
     }
 
     pub fn hold(&mut self)

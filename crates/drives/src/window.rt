@@ -1,7 +1,6 @@
 // Windows: limits around any drive.
 ghost use mathlib.Core.Path.{_≡_};
 ghost use Rattle.drives.specs.Windows.{keepsOut, refusalAbove, windowed};
-
 use crate::drive::Drive;
 use crate::drive::POSITION_MODE;
 use crate::drive::RECORD_LENGTH;
@@ -26,18 +25,27 @@ impl Limits {
         match target.mode {
             POSITION_MODE => target.value < self.low || self.high < target.value,
             VELOCITY_MODE => {
-                (0 < target.value && self.high <= position) || (target.value < 0 && position <= self.low)
+                (0 < target.value && self.high <= position)
+                    || (target.value < 0 && position <= self.low)
             }
             _ => false,
         }
     }
 
     // The refusal with these limits above a drive that refuses as `below` says.
-    pub fn refusal_above(&self, position: i32, target: Target, below: Option<Refusal>) -> Option<Refusal>
+    pub fn refusal_above(
+        &self,
+        position: i32,
+        target: Target,
+        below: Option<Refusal>,
+    ) -> Option<Refusal>
         ensures { λ r. ⌜ r ≡ refusalAbove (now (self .entry)) position target below ⌝ }
     {
         if self.keep_out(position, target) {
-            return Some(Refusal { cause: Cause::Window, depth: 0 });
+            return Some(Refusal {
+                cause: Cause::Window,
+                depth: 0,
+            });
         }
         match below {
             Some(refusal) => Some(refusal.deepened()),
@@ -57,7 +65,10 @@ impl<D: Drive> Window<D> {
     pub fn new(low: i32, high: i32, below: D) -> Window<D>
         ensures { λ r. ⌜ r ≡ record { limits = record { low = low; high = high }; below = below } ⌝ }
     {
-        Window { limits: Limits { low, high }, below }
+        Window {
+            limits: Limits { low, high },
+            below,
+        }
     }
 }
 
@@ -82,7 +93,10 @@ pub impl<D: Drive> Drive for Window<D> as WindowDrive {
 
     fn take(&mut self, target: Target) -> Result<(), Refusal> {
         if self.limits.keep_out(self.below.held().position, target) {
-            return Err(Refusal { cause: Cause::Window, depth: 0 });
+            return Err(Refusal {
+                cause: Cause::Window,
+                depth: 0,
+            });
         }
         match self.below.take(target) {
             Ok(()) => Ok(()),
@@ -103,8 +117,9 @@ pub impl<D: Drive> Drive for Window<D> as WindowDrive {
     }
 
     fn refusal(&self, target: Target) -> Option<Refusal> {
+        let position = self.below.held().position;
         let below = self.below.refusal(target);
-        self.limits.refusal_above(self.below.held().position, target, below)
+        self.limits.refusal_above(position, target, below)
     }
 
     fn reading(&self, record: &[u8; RECORD_LENGTH]) -> (u16, i32, i32) {

@@ -13,22 +13,22 @@ use Rattle.drives.specs.Holdings.{Reading, ownRefusal}
 use Rattle.drives.specs.Meaning.{Lawful, ownMake}
 
 refused-unless-fit :
-  (h : Held) (known admitted : Bool)
-  → (admitted ≡ true → known ≡ true)
-  → isSome (ownRefusal h known admitted) ≡ not ((h .powered && eqb (h .trouble) 0) && admitted)
+    (h : Held) (known admitted : Bool)
+    → (admitted ≡ true → known ≡ true)
+    → isSome (ownRefusal h known admitted) ≡ not ((h .powered && eqb (h .trouble) 0) && admitted)
 refused-unless-fit h known admitted known-if = grind arith
 
 pub own-lawful :
-  (knows : ℤ → Bool) (admits : ℤ → Target → Bool) (reads : Held → List ℕ → Reading)
-  → knows (pos 0) ≡ true
-  → ((position value : ℤ) → admits position (record { mode = pos 0; value = value }) ≡ false)
-  → ((position : ℤ) (target : Target) → admits position target ≡ true → knows (target .mode) ≡ true)
-  → Lawful (ownMake knows admits reads)
+    (knows : ℤ → Bool) (admits : ℤ → Target → Bool) (reads : Held → List ℕ → Reading)
+    → knows (pos 0) ≡ true
+    → ((position value : ℤ) → admits position (record { mode = pos 0; value = value }) ≡ false)
+    → ((position : ℤ) (target : Target) → admits position target ≡ true → knows (target .mode) ≡ true)
+    → Lawful (ownMake knows admits reads)
 own-lawful knows admits reads zero-known zero-admits-nothing admitted-is-known =
     record {
       mode-zero-known = zero-known;
       mode-zero-admits-nothing = zero-admits-nothing;
       admitted-is-known = admitted-is-known;
       taken-exactly-when-fit = λ h target.
-        refused-unless-fit h (knows (target .mode)) (admits (h .position) target) (admitted-is-known (h .position) target);
+          refused-unless-fit h (knows (target .mode)) (admits (h .position) target) (admitted-is-known (h .position) target);
     }

@@ -3,7 +3,6 @@ ghost use mathlib.Core.Path.{_≡_};
 ghost use Rattle.drives.specs.Holdings.{atRest};
 ghost use Rattle.makes.specs.Cylinders.{cylinderMeaning, scaleKept};
 ghost use Rattle.makes.specs.Meanings.{cylinderIs};
-
 use crate::scale::GREATEST_CURRENT;
 use crate::scale::LEAST_CURRENT;
 use crate::scale::Scale;

@@ -3,7 +3,6 @@ ghost use mathlib.Core.Path.{_≡_};
 ghost use Rattle.drives.specs.Holdings.{atRest};
 ghost use Rattle.makes.specs.Hoists.{hoistMeaning};
 ghost use Rattle.makes.specs.Meanings.{hoistIs};
-
 use crate::inverter::inverter_trouble;
 use drives::drive::Drive;
 use drives::drive::NO_MODE;

@@ -6,7 +6,9 @@ ghost use Rattle.makes.specs.Cylinders.{scaleKept, currentPosition};
 
 // The sensor's range in microamperes, and the current that stands for position 0.
 pub const LEAST_CURRENT: u16 = 3_600;
+
 pub const GREATEST_CURRENT: u16 = 21_000;
+
 pub const ZERO_CURRENT: u16 = 4_000;
 
 // The current from position 0 to the highest position.

@@ -10,7 +10,7 @@ use Rattle.std.specs.shelf.Lists.{leading}
 use Rattle.std.specs.declared.option.Option.{Option}
 use Rattle.std.specs.declared.option.Option.the-variants.{Some, None}
 use Rattle.std.proofs.shelf.Tests.{ne-eqb, cond-false}
-use Rattle.text.specs.Lines.{isBlank, unlessEmpty, wordsAfter, wordsIn, withoutReturn, firstWord, otherWords}
+use Rattle.text.specs.Lines.{isBlank, unlessEmpty, wordsAfter, wordsIn, withoutReturn, firstWord}
 
 pub no-return : (line : List ℕ) → (0 < length line → getD line (length line - 1) 0 ≡ 13 → ⊥) → line ≡ withoutReturn line
 no-return [] not-last = refl
@@ -66,17 +66,17 @@ module _ {bs text word rest : List ℕ} (cut : Cut bs text word rest) where
   words-are : wordsIn bs ≡ unlessEmpty word ++ wordsIn rest
   words-are = rw (cut .front, cut .back) (sym (blanks-go bs) ∙ ap wordsIn (sym (cut .blanks)) ∙ word-ends [] text)
 
-  pub none-left : length word ≡ 0 → (None ≡ firstWord (wordsIn bs)) × (wordsIn rest ≡ otherWords (wordsIn bs))
+  pub none-left : length word ≡ 0 → (None ≡ firstWord (wordsIn bs)) × (wordsIn bs ≡ wordsIn rest)
   none-left none =
       let solid = subst Solid (sym (cut .blanks)) (solid-after bs) in
       let empty = no-text text solid (ap length (sym (cut .front)) ∙ none) in
       let no-words : wordsIn bs ≡ [] = sym (blanks-go bs) ∙ ap wordsIn (sym (cut .blanks) ∙ empty) in
       let no-rest : wordsIn rest ≡ [] = ap wordsIn (cut .back) ∙ ap (λ t. wordsIn (drop (leading notBlank t) t)) empty in
-      (rw no-words refl, rw (no-words, no-rest) refl)
+      (rw no-words refl, no-words ∙ sym no-rest)
 
-first-of : (word : List ℕ) (ws vs : List (List ℕ)) → (length word ≡ 0 → ⊥) → ws ≡ unlessEmpty word ++ vs → (Some word ≡ firstWord ws) × (vs ≡ otherWords ws)
+first-of : (word : List ℕ) (ws vs : List (List ℕ)) → (length word ≡ 0 → ⊥) → ws ≡ unlessEmpty word ++ vs → (Some word ≡ firstWord ws) × (ws ≡ word ∷ vs)
 first-of [] ws vs some e = absurd (some refl)
-first-of (b ∷ bs) ws vs some e = (rw e refl, rw e refl)
+first-of (b ∷ bs) ws vs some e = (rw e refl, e)
 
-pub first-left : {bs text word rest : List ℕ} → Cut bs text word rest → (length word ≡ 0 → ⊥) → (Some word ≡ firstWord (wordsIn bs)) × (wordsIn rest ≡ otherWords (wordsIn bs))
+pub first-left : {bs text word rest : List ℕ} → Cut bs text word rest → (length word ≡ 0 → ⊥) → (Some word ≡ firstWord (wordsIn bs)) × (wordsIn bs ≡ word ∷ wordsIn rest)
 first-left {bs} {text} {word} {rest} cut some = first-of word (wordsIn bs) (wordsIn rest) some (words-are cut)

@@ -24,9 +24,6 @@ use Rattle.text.specs.Numerals.{digitsValue, minus, integerOf, within}
 minus-kept : (n : ℕ) → minus (kept n) ≡ keptInteger (minus n)
 minus-kept n = grind (arith, ints)
 
-pos-kept : (n : ℕ) → pos (kept n) ≡ keptInteger (pos n)
-pos-kept n = grind (arith, ints)
-
 each-minus : (o : Option ℕ) → mapped minus (mapped kept o) ≡ mapped keptInteger (mapped minus o)
 each-minus None = refl
 each-minus (Some n) = ap Some (minus-kept n)

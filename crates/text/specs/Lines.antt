@@ -48,7 +48,3 @@ wordsLeft words = wordsIn (words .rest .now)
 abbrev pub firstWord : List (List ℕ) → Option (List ℕ)
 firstWord [] = None
 firstWord (w ∷ ws) = Some w
-
-abbrev pub otherWords : List (List ℕ) → List (List ℕ)
-otherWords [] = []
-otherWords (w ∷ ws) = ws

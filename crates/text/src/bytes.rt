@@ -21,6 +21,7 @@ fn all_digits(word: &[u8]) -> bool
     true
 }
 
+// Every byte here is a digit: `all_digits` has seen to it.
 fn digit_value(byte: u8) -> u8
     ensures value { λ r. ⌜ r ≡ digitValue byte ⌝ }
     ensures small { λ r. ⌜ r < 16 ⌝ }
@@ -28,6 +29,7 @@ fn digit_value(byte: u8) -> u8
     digit(byte).unwrap_or(0)
 }
 
+// Each two digits are a byte.
 fn pairs(heap: Global, word: &[u8]) -> Result<Vec<u8>, Fault>
     ensures { λ r. ⌜ Cases r (λ v. vec-items v ≡ pairsOf (now (word .entry))) (λ e. e ≡ NoMemory) ⌝ }
 {

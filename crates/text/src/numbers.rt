@@ -19,6 +19,7 @@ fn digit_in(base: u8, byte: u8) -> Option<u8>
     }
 }
 
+// The value of one digit or more.
 fn digits_value(base: u8, digits: &[u8]) -> Option<u64>
     requires some { ⌜ 0 < base ⌝ }
     requires few { ⌜ base ≤ 16 ⌝ }
@@ -35,6 +36,7 @@ fn digits_value(base: u8, digits: &[u8]) -> Option<u64>
     Some(value)
 }
 
+// The value of a word with no sign.
 fn natural(word: &[u8]) -> Option<u64>
     ensures { λ r. ⌜ r ≡ mapped kept (naturalOf (now (word .entry))) ⌝ }
 {
@@ -44,6 +46,7 @@ fn natural(word: &[u8]) -> Option<u64>
     }
 }
 
+// The value of a word with or without a minus sign, which stands before decimal digits only.
 fn integer(word: &[u8]) -> Option<i64>
     ensures { λ r. ⌜ r ≡ mapped keptInteger (integerOf (now (word .entry))) ⌝ }
 {

@@ -1,11 +1,13 @@
 // A line cut into its words, which borrow the line.
 ghost use mathlib.Core.Path.{_≡_};
+ghost use mathlib.Core.List.{_++_};
 ghost use Prim.Native.Nat.{_≤_};
 ghost use lib.ListN.{length};
 ghost use Rattle.std.specs.Options.{mapped};
+ghost use Rattle.std.specs.Vec.{listOf};
 ghost use Rattle.std.specs.shelf.Lists.{leading};
 ghost use Rattle.text.specs.Classes.{has};
-ghost use Rattle.text.specs.Lines.{withoutReturn, withoutComment, wordsOf, wordsLeft, firstWord, otherWords};
+ghost use Rattle.text.specs.Lines.{withoutReturn, withoutComment, wordsOf, wordsLeft, firstWord};
 
 // The words of a line that are still to come.
 #[derive(Drop)]
@@ -62,6 +64,7 @@ fn without_comment(text: &[u8]) -> &[u8]
 }
 
 impl<'a> Words<'a> {
+    // All words of a line, which comes without its newline.
     pub fn of_line(line: &'a [u8]) -> Words<'a>
         ensures { λ r. ⌜ wordsLeft r ≡ wordsOf (now (line .entry)) ⌝ }
     {
@@ -70,10 +73,10 @@ impl<'a> Words<'a> {
         Words { rest }
     }
 
-    // The first of the words left.
+    // The first of the words left; the others stay.
     pub fn next(&mut self) -> Option<&'a [u8]>
         ensures first { λ r. ⌜ mapped now r ≡ firstWord (wordsLeft (now (self .entry))) ⌝ }
-        ensures others { λ r. ⌜ wordsLeft (now (self .exit)) ≡ otherWords (wordsLeft (now (self .entry))) ⌝ }
+        ensures others { λ r. ⌜ wordsLeft (now (self .entry)) ≡ listOf (mapped now r) ++ wordsLeft (now (self .exit)) ⌝ }
     {
         let (_, text) = self.rest.split_at(run(self.rest, Class::Blank));
         let (word, rest) = text.split_at(run(text, Class::NotBlank));

@@ -22,6 +22,6 @@ returns-in-None g c =
     let free = sym (c .in-None .ensures tt) in
     record {
       carries = ap (λ d. enclosed d (vec-items (windows .limits))) (c .take .ensures .carries)
-        ∙ sym (taken-through (c .args .target) drive (vec-items (windows .limits)) free);
+          ∙ sym (taken-through (c .args .target) drive (vec-items (windows .limits)) free);
       answers = c .take .ensures .answers ∙ answer-free (c .args .target) drive (vec-items (windows .limits)) free;
     }

@@ -23,5 +23,5 @@ returns-in-Err g c =
     record {
       carries = passed-carries (window .limits) (c .args .target) below passes _ (c .take .ensures .carries);
       answers = rw (c .deepened .ensures)
-        (passed-refused (window .limits) (c .args .target) below passes (c .in-Err .refusal) (c .in-Err .ensures tt .answers));
+          (passed-refused (window .limits) (c .args .target) below passes (c .in-Err .refusal) (c .in-Err .ensures tt .answers));
     }

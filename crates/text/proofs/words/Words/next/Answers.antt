@@ -1,6 +1,4 @@
-use mathlib.Core.Path.{sym, ap, _∙_}
-use native.Mathlib.Omega.{arith}
-use lib.ListN.{length, take, drop}
+use mathlib.Core.Path.{sym}
 use Rattle.std.proofs.shelf.Tests.{eqb-true, eqb-false}
 use Rattle.text.proofs.LineLaws.{Cut, none-left, first-left}
 use Rattle.text.proofs.words.Words.next.Needs as need
@@ -14,12 +12,12 @@ cut c =
       back = rw (c .run-2 .ensures .counts) at (c .split-at-2 .ensures .back);
     }
 
-pub returns-then-is-empty : need.returns-then-is-empty
-returns-then-is-empty c =
-    let told = none-left (cut (need.at·returns-then-is-empty c .After-split-at-2)) (eqb-true _ 0 (sym (c .if-is-empty .ensures tt))) in
-    record { first = told .0; others = told .1 }
-
 pub returns-else-is-empty : need.returns-else-is-empty
 returns-else-is-empty c =
     let told = first-left (cut (need.at·returns-else-is-empty c .After-split-at-2)) (eqb-false _ 0 (sym (c .if-is-empty .ensures tt))) in
+    record { first = told .0; others = told .1 }
+
+pub returns-then-is-empty : need.returns-then-is-empty
+returns-then-is-empty c =
+    let told = none-left (cut (need.at·returns-then-is-empty c .After-split-at-2)) (eqb-true _ 0 (sym (c .if-is-empty .ensures tt))) in
     record { first = told .0; others = told .1 }
