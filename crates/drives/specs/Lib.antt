@@ -3,9 +3,7 @@
 --   Holdings   what a drive holds, and what each operation makes of it
 --   Modes      the modes of operation
 --   Meaning    a drive's whole meaning as one value, and what every make owes
---   Windows    limits around any drive
 pub mod Refusals
 pub mod Holdings
 pub mod Modes
 pub mod Meaning
-pub mod Windows

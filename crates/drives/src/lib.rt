@@ -2,4 +2,3 @@
 pub mod drive;
 pub mod held;
 pub mod target;
-pub mod window;

@@ -1,9 +1,0 @@
-use native.Mathlib.Omega.{arith}
-use Rattle.std.specs.Of.Vec.{vec-items}
-use Rattle.configured.proofs.InRow.{row-count}
-use Rattle.configured.proofs.row.RowBank.count.Needs as need
-
-pub returns : need.returns
-returns g c =
-    let drives = c .args .self .now .drives in
-    omega (arith, row-count (g .D·Drive .meaning) (vec-items drives), drives .ok .0)

@@ -1,0 +1,2 @@
+// Any number of drives in a row.
+pub mod row;

@@ -1,0 +1,10 @@
+use mathlib.Core.Path.{refl, sym, _∙_}
+use Rattle.std.specs.Of.Vec.{vec-items}
+use Rattle.drives.specs.Meaning.{readingOf}
+use Rattle.stacks.proofs.Enclosed.{seen}
+use Rattle.stacks.proofs.stack.StackDrive.reading.Needs as need
+
+pub returns : need.returns
+returns g c =
+    let windows = c .args .self .now in
+    c .reading .ensures ∙ sym (seen (readingOf (c .args .record .now)) (λ limits d. refl) (g .D·Drive .meaning (windows .below)) (vec-items (windows .limits)))

@@ -1,0 +1,2 @@
+// Any number of windows over a drive.
+pub mod stack;

@@ -1,0 +1,3 @@
+-- What windows mean.
+--   Windows   limits around any drive
+pub mod Windows

@@ -1,0 +1,2 @@
+// Windows over any drive.
+pub mod window;
