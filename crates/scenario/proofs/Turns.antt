@@ -37,16 +37,16 @@ unfolding limitsIn
 limits-shorter ws limits rest e = first (valueIn ws) refl e
   where
     first :
-      (low : Taken ℤ) → valueIn ws ≡ low
-      → _≡_ {A = Taken Limits} (Ok (limits, rest)) (andThen low (λ z r. andThen (valueIn r) (λ high s. Ok (record { low = z; high = high }, s))))
-      → length rest ≤ length ws
+        (low : Taken ℤ) → valueIn ws ≡ low
+        → _≡_ {A = Taken Limits} (Ok (limits, rest)) (andThen low (λ z r. andThen (valueIn r) (λ high s. Ok (record { low = z; high = high }, s))))
+        → length rest ≤ length ws
     first (Err wrong) is same = let clash : _≡_ {A = ℕ} 0 1 = cc in omega arith
     first (Ok low) is same = second (valueIn (low .1)) refl same
       where
         second :
-          (high : Taken ℤ) → valueIn (low .1) ≡ high
-          → _≡_ {A = Taken Limits} (Ok (limits, rest)) (andThen high (λ z s. Ok (record { low = low .0; high = z }, s)))
-          → length rest ≤ length ws
+            (high : Taken ℤ) → valueIn (low .1) ≡ high
+            → _≡_ {A = Taken Limits} (Ok (limits, rest)) (andThen high (λ z s. Ok (record { low = low .0; high = z }, s)))
+            → length rest ≤ length ws
         second (Err wrong) is′ same′ = let clash : _≡_ {A = ℕ} 0 1 = cc in omega arith
         second (Ok high) is′ same′ =
             let both : _≡_ {A = Limits × Words} (limits, rest) (record { low = low .0; high = high .0 }, high .1) = cc in
@@ -77,21 +77,21 @@ module _ (whole : Taken DriveMeaning) (outer : List Limits) (ws : Words) (still 
 
   module _ (name : List ℕ) (r : Words) (e : _≡_ {A = Taken (List ℕ)} (Ok (name, r)) (wordIn ws)) where
     after-window :
-      (n : ℕ) → sameBytes name (codes "window") ≡ true
-      → andThen (limitsIn r) (λ limits s. makeUnder n (limits ∷ outer) s) ≡ makeUnder (suc n) outer ws
+        (n : ℕ) → sameBytes name (codes "window") ≡ true
+        → andThen (limitsIn r) (λ limits s. makeUnder n (limits ∷ outer) s) ≡ makeUnder (suc n) outer ws
     unfolding makeUnder
     after-window n is-window = rw (← e, is-window) refl
 
     after-name :
-      (n : ℕ) → sameBytes name (codes "window") ≡ false
-      → andThen (namedIn name r) (λ drive s. Ok (enclosed drive outer, s)) ≡ makeUnder (suc n) outer ws
+        (n : ℕ) → sameBytes name (codes "window") ≡ false
+        → andThen (namedIn name r) (λ drive s. Ok (enclosed drive outer, s)) ≡ makeUnder (suc n) outer ws
     unfolding makeUnder
     after-name n is-make = rw (← e, is-make) refl
 
     -- one window more has been read
     pub window-read :
-      (limits : Limits) (s : Words) → sameBytes name (codes "window") ≡ true
-      → _≡_ {A = Taken Limits} (Ok (limits, s)) (limitsIn r) → Still whole (limits ∷ outer) s
+        (limits : Limits) (s : Words) → sameBytes name (codes "window") ≡ true
+        → _≡_ {A = Taken Limits} (Ok (limits, s)) (limitsIn r) → Still whole (limits ∷ outer) s
     window-read limits s is-window e′ =
         let m = more whole outer ws still in
         record {
@@ -111,9 +111,9 @@ module _ (whole : Taken DriveMeaning) (outer : List Limits) (ws : Words) (still 
         (rw (← e′) at (after-name (m .0) is-make)) ∙ m .2
 
     pub make-read :
-      (drive : DriveMeaning) (s : Words) → sameBytes name (codes "window") ≡ false
-      → _≡_ {A = Taken DriveMeaning} (Ok (drive, s)) (namedIn name r)
-      → _≡_ {A = Taken DriveMeaning} (Ok (enclosed drive outer, s)) whole
+        (drive : DriveMeaning) (s : Words) → sameBytes name (codes "window") ≡ false
+        → _≡_ {A = Taken DriveMeaning} (Ok (drive, s)) (namedIn name r)
+        → _≡_ {A = Taken DriveMeaning} (Ok (enclosed drive outer, s)) whole
     make-read drive s is-make e′ =
         let m = more whole outer ws still in
         (rw (← e′) at (after-name (m .0) is-make)) ∙ m .2

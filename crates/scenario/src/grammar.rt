@@ -4,7 +4,6 @@ ghost use lib.IntN.{pos, negsuc};
 ghost use Rattle.std.specs.shelf.Text.{sameBytes};
 ghost use Rattle.text.specs.Lines.{wordsLeft};
 ghost use Rattle.scenario.specs.Grammar.{leaving, wordOf, wordIn, unsignedIn, signedIn, ended};
-
 use crate::wrong::Wrong;
 use crate::wrong::WrongFromFault;
 use text::numbers::signed;

@@ -1,4 +1,6 @@
-// Scenarios: what a line says, and what the bench part makes of a bank of drives.
+// Scenarios: what a line says.
+pub mod directive;
 pub mod grammar;
+pub mod keyword;
 pub mod make;
 pub mod wrong;

@@ -4,7 +4,6 @@ ghost use Rattle.text.specs.Lines.{wordsLeft};
 ghost use Rattle.scenario.specs.Grammar.{leaving, valueIn, UnlessNoMemory};
 ghost use Rattle.scenario.specs.Makes.{hoistIn, cylinderIn, namedIn, limitsIn, makeIn};
 ghost use Rattle.scenario.specs.Described.{makeDescribed, driveDescribed};
-
 use crate::grammar::is_written;
 use crate::grammar::take_signed;
 use crate::grammar::take_unsigned;

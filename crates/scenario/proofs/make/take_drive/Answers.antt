@@ -74,7 +74,7 @@ loop-limits-again c =
     let still = c .loop-limits .inv in
     let limits = c .in-Continue-window .window in
     let pushed : reverse (vec-items (c .push .last .self)) ≡ limits ∷ outer =
-        ap reverse (c .in-Continue-push .ensures tt .items) ∙ reverse-append (vec-items (c .loop-limits .limits)) (limits ∷ []) in
+    ap reverse (c .in-Continue-push .ensures tt .items) ∙ reverse-append (vec-items (c .loop-limits .limits)) (limits ∷ []) in
     rw pushed
     (window-read whole outer ws still (c .in-Continue-name .name .now) (wordsLeft (c .take-word .last .words)) (c .in-Continue-name .ensures tt)
     limits (wordsLeft (c .take-limits .last .words)) (sym (c .if-not-is-written .ensures tt)) (c .in-Continue-window .ensures tt))
