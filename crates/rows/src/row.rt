@@ -3,8 +3,10 @@ ghost use mathlib.Core.Path.{_≡_};
 ghost use mathlib.Core.Bool.{cond};
 ghost use mathlib.Core.List.{[], _∷_, _++_};
 ghost use Rattle.std.specs.Of.Vec.{vec-items};
+ghost use lib.ListN.{length};
 ghost use Rattle.std.specs.Results.{isOk};
-ghost use Rattle.rows.specs.Rows.{inRow, PlaceIs};
+ghost use Rattle.std.specs.Vec.{refused};
+ghost use Rattle.rows.specs.Rows.{inRow, withDrive, PlaceIs};
 use banks::bank::Bank;
 use banks::single::NO_DRIVE;
 use drives::drive::Drive;
@@ -33,9 +35,18 @@ impl<D: Drive> Row<D> {
         }
     }
 
+    // How many drives stand in the row, those beyond the bank too.
+    pub fn len(&self) -> usize
+        ensures { λ r. ⌜ r ≡ length (vec-items (now (self .entry) .drives)) ⌝ }
+    {
+        self.drives.len()
+    }
+
     // One drive more at the end, or the drive back where memory is wanting.
     pub fn push(&mut self, drive: D) -> Result<(), Refused<D>>
-        ensures { λ r. ⌜ vec-items (now (self .exit) .drives) ≡ cond (isOk r) (vec-items (now (self .entry) .drives) ++ (drive ∷ [])) (vec-items (now (self .entry) .drives)) ⌝ }
+        ensures appended { λ r. ⌜ vec-items (now (self .exit) .drives) ≡ cond (isOk r) (vec-items (now (self .entry) .drives) ++ (drive ∷ [])) (vec-items (now (self .entry) .drives)) ⌝ }
+        ensures joins_the_bank { λ r. ⌜ inRow (D·Drive .meaning) (vec-items (now (self .exit) .drives)) ≡ cond (isOk r) (withDrive (inRow (D·Drive .meaning) (vec-items (now (self .entry) .drives))) (D·Drive .meaning drive)) (inRow (D·Drive .meaning) (vec-items (now (self .entry) .drives))) ⌝ }
+        ensures handed_back { λ r. ⌜ refused r (λ back. back .value ≡ drive) ⌝ }
     {
         self.drives.push(drive)
     }

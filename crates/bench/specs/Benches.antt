@@ -1,0 +1,61 @@
+-- The bank on the bench, and what a line makes of it.
+use Prim.Native.Nat.{ℕ}
+use mathlib.Core.Path.{_≡_}
+use mathlib.Core.List.{List}
+use lib.Chars.{codes}
+use lib.ListN.{length}
+use Rattle.std.specs.Of.Vec.{vec-items}
+use Rattle.std.specs.declared.option.Option.{Option}
+use Rattle.std.specs.declared.option.Option.the-variants.{Some, None}
+use Rattle.std.specs.declared.result.Result.{Result}
+use Rattle.drives.specs.declared.target.Refusal.{Refusal}
+use Rattle.drives.specs.Meaning.{DriveMeaning}
+use Rattle.banks.specs.Lists.{driveAt, changed}
+use Rattle.configured.specs.declared.make.AnyMake.{AnyMake}
+use Rattle.rows.specs.declared.row.Row.{Row}
+use Rattle.rows.specs.Rows.{inRow, withDrive}
+use Rattle.stacks.specs.declared.stack.Stack.{Stack}
+use Rattle.scenario.specs.declared.directive.Operation.the-variants.{Energise, DeEnergise, Hold, Sample, Take}
+use Rattle.scenario.specs.Described.{stackIs}
+use Rattle.scenario.specs.Directives.{Said, Declares, Operates}
+use Rattle.bench.specs.declared.log.BenchLine.{BenchLine}
+use Rattle.bench.specs.Operations.{operated, operationAnswer}
+
+abbrev pub bankIs : Row (Stack AnyMake) → List DriveMeaning
+bankIs bank = inRow stackIs (vec-items (bank .drives))
+
+abbrev pub carriedOut : Said → List DriveMeaning → List DriveMeaning
+carriedOut (Declares drive) bank = withDrive bank drive
+carriedOut (Operates number operation) bank = changed (operated operation) bank number
+
+-- A line without a word does nothing.
+abbrev pub followed : Option Said → List DriveMeaning → List DriveMeaning
+followed None bank = bank
+followed (Some said) bank = carriedOut said bank
+
+-- The word that names what is said.
+abbrev pub nameOf : Said → List ℕ
+nameOf (Declares drive) = codes "drive"
+nameOf (Operates number Energise) = codes "energise"
+nameOf (Operates number DeEnergise) = codes "deenergise"
+nameOf (Operates number Hold) = codes "hold"
+nameOf (Operates number (Sample bytes)) = codes "sample"
+nameOf (Operates number (Take target)) = codes "take"
+
+-- The drive that is spoken of. A drive that is declared takes the next number of the row, beyond the bank too.
+abbrev pub numberOf : Said → Row (Stack AnyMake) → ℕ
+numberOf (Declares drive) row = length (vec-items (row .drives))
+numberOf (Operates number operation) row = number
+
+abbrev pub answerTo : Said → List DriveMeaning → Option (Result (Unit {0}) Refusal)
+answerTo (Declares drive) bank = None
+answerTo (Operates number operation) bank = operationAnswer operation (driveAt bank number)
+
+-- The bank has followed what was said, and the line shows it.
+pub record LineShows (line : ℕ) (said : Said) (before after : Row (Stack AnyMake)) (shown : BenchLine) : Type 0 where
+  pub followed-it : bankIs after ≡ carriedOut said (bankIs before)
+  pub line-number : shown .line ≡ line
+  pub directive-name : shown .directive .now ≡ nameOf said
+  pub answer-shown : shown .answer ≡ answerTo said (bankIs before)
+  pub drive-number : shown .drive .number ≡ numberOf said before
+  pub drive-shown : shown .drive .held ≡ driveAt (bankIs after) (shown .drive .number) .held
