@@ -2,12 +2,17 @@
 use Prim.Native.Nat.{ℕ}
 use mathlib.Core.Path.{_≡_}
 use mathlib.Core.List.{List}
+use mathlib.Core.Logic.{_⊎_}
 use lib.Chars.{codes}
 use lib.ListN.{length}
 use Rattle.std.specs.Of.Vec.{vec-items}
 use Rattle.std.specs.declared.option.Option.{Option}
 use Rattle.std.specs.declared.option.Option.the-variants.{Some, None}
 use Rattle.std.specs.declared.result.Result.{Result}
+use Rattle.std.specs.declared.result.Result.the-variants.{Ok, Err}
+use Rattle.text.specs.declared.fault.Fault.the-variants.{NoMemory}
+use Rattle.scenario.specs.declared.wrong.Wrong.{Wrong}
+use Rattle.scenario.specs.declared.wrong.Wrong.the-variants.{Word}
 use Rattle.drives.specs.declared.target.Refusal.{Refusal}
 use Rattle.drives.specs.Meaning.{DriveMeaning}
 use Rattle.banks.specs.Lists.{driveAt, changed}
@@ -17,7 +22,7 @@ use Rattle.rows.specs.Rows.{inRow, withDrive}
 use Rattle.stacks.specs.declared.stack.Stack.{Stack}
 use Rattle.scenario.specs.declared.directive.Operation.the-variants.{Energise, DeEnergise, Hold, Sample, Take}
 use Rattle.scenario.specs.Described.{stackIs}
-use Rattle.scenario.specs.Directives.{Said, Declares, Operates}
+use Rattle.scenario.specs.Directives.{Said, Declares, Operates, lineSays}
 use Rattle.bench.specs.declared.log.BenchLine.{BenchLine}
 use Rattle.bench.specs.Operations.{operated, operationAnswer}
 
@@ -59,3 +64,9 @@ pub record LineShows (line : ℕ) (said : Said) (before after : Row (Stack AnyMa
   pub answer-shown : shown .answer ≡ answerTo said (bankIs before)
   pub drive-number : shown .drive .number ≡ numberOf said before
   pub drive-shown : shown .drive .held ≡ driveAt (bankIs after) (shown .drive .number) .held
+
+-- What a line of the scenario leaves: the bank has followed it, or the line is wrong and nothing has changed,
+-- unless memory was wanting.
+abbrev pub LineFollowed : List ℕ → Row (Stack AnyMake) → Row (Stack AnyMake) → Result (Unit {0}) Wrong → Type 0
+LineFollowed line before after (Ok done) = (said : Option Said) × (Ok said ≡ lineSays line) × (bankIs after ≡ followed said (bankIs before))
+LineFollowed line before after (Err wrong) = (wrong ≡ Word NoMemory) ⊎ ((Err wrong ≡ lineSays line) × (bankIs after ≡ bankIs before))

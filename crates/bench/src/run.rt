@@ -1,16 +1,20 @@
 // What the directives of the bench part make of a bank.
 ghost use mathlib.Core.Path.{_≡_};
 ghost use mathlib.Core.List.{[]};
+ghost use mathlib.Core.Logic.{_⊎_};
+ghost use Rattle.std.specs.Of.String.{string-bytes};
 ghost use Rattle.std.specs.Results.{Cases};
+ghost use Rattle.std.specs.Vec.{refused};
 ghost use Rattle.banks.specs.Lists.{driveAt, changed};
 ghost use Rattle.text.specs.declared.fault.Fault.the-variants.{NoMemory};
 ghost use Rattle.scenario.specs.declared.wrong.Wrong.the-variants.{Word};
 ghost use Rattle.scenario.specs.Directives.{Operates};
 ghost use Rattle.scenario.specs.Heard.{says};
 ghost use Rattle.bench.specs.Operations.{operated, operationAnswer};
-ghost use Rattle.bench.specs.Benches.{bankIs, nameOf, LineShows};
+ghost use Rattle.bench.specs.Benches.{bankIs, nameOf, LineShows, LineFollowed};
 
 use crate::log::BenchLine;
+use crate::log::BenchLineDisplay;
 use crate::log::ShownDrive;
 use banks::bank::Bank;
 use configured::ConfiguredBank;
@@ -20,10 +24,13 @@ use drives::target::Refusal;
 use rows::row::RowBank;
 use scenario::directive::Directive;
 use scenario::directive::Operation;
+use scenario::directive::read_directive;
 use scenario::wrong::Wrong;
 use scenario::wrong::WrongFromRefused;
 use stacks::stack::StackDrive;
 use std::alloc::Global;
+use std::fmt::Write;
+use text::fault::Fault;
 
 // Carries out an operation on the drive of a number. Only a take answers.
 pub fn operate<B: Bank>(bank: &mut B, number: u8, operation: Operation) -> Option<Result<(), Refusal>>
@@ -106,5 +113,21 @@ impl Bench {
         };
         let held = held_by(&self.bank, number);
         Ok(BenchLine { line, directive: name, answer, drive: ShownDrive { number, held } })
+    }
+
+    // Follows a line of the scenario, given with its number and without its newline, and adds what it shows to the log.
+    // A wrong line does nothing and shows nothing.
+    pub fn follow(&mut self, heap: Global, number: u64, line: &[u8], log: &mut String) -> Result<(), Wrong>
+        ensures bank_follows { λ r. ⌜ LineFollowed (now (line .entry)) (now (self .entry) .bank) (now (self .exit) .bank) r ⌝ }
+        ensures wrong_line_shows_nothing { λ r. ⌜ refused r (λ wrong. (wrong ≡ Word NoMemory) ⊎ (string-bytes (now (log .exit)) ≡ string-bytes (now (log .entry)))) ⌝ }
+    {
+        let Some(directive) = read_directive(heap, line)? else {
+            return Ok(());
+        };
+        let shown = self.carry_out(number, directive)?;
+        match writeln!(log, "{shown}") {
+            Ok(()) => Ok(()),
+            Err(_) => Err(Wrong::Word(Fault::NoMemory)),
+        }
     }
 }
