@@ -12,7 +12,6 @@ ghost use Rattle.scenario.specs.Directives.{Operates};
 ghost use Rattle.scenario.specs.Heard.{says};
 ghost use Rattle.bench.specs.Operations.{operated, operationAnswer};
 ghost use Rattle.bench.specs.Benches.{bankIs, nameOf, LineShows, LineFollowed};
-
 use crate::log::BenchLine;
 use crate::log::BenchLineDisplay;
 use crate::log::ShownDrive;
@@ -33,7 +32,11 @@ use std::fmt::Write;
 use text::fault::Fault;
 
 // Carries out an operation on the drive of a number. Only a take answers.
-pub fn operate<B: Bank>(bank: &mut B, number: u8, operation: Operation) -> Option<Result<(), Refusal>>
+pub fn operate<B: Bank>(
+    bank: &mut B,
+    number: u8,
+    operation: Operation,
+) -> Option<Result<(), Refusal>>
     ensures one_drive_changes { λ _. ⌜ meanings (now (bank .exit)) ≡ changed (operated operation) (meanings (now (bank .entry))) number ⌝ }
     ensures answers { λ r. ⌜ r ≡ operationAnswer operation (driveAt (meanings (now (bank .entry))) number) ⌝ }
 {
@@ -92,7 +95,9 @@ impl Bench {
     pub fn new(heap: Global) -> Bench
         ensures { λ r. ⌜ bankIs (r .bank) ≡ [] ⌝ }
     {
-        Bench { bank: ConfiguredBank::new(heap) }
+        Bench {
+            bank: ConfiguredBank::new(heap),
+        }
     }
 
     // Carries out a directive that stands on a line of the scenario, and gives the log's line for it.
@@ -112,12 +117,23 @@ impl Bench {
             }
         };
         let held = held_by(&self.bank, number);
-        Ok(BenchLine { line, directive: name, answer, drive: ShownDrive { number, held } })
+        Ok(BenchLine {
+            line,
+            directive: name,
+            answer,
+            drive: ShownDrive { number, held },
+        })
     }
 
     // Follows a line of the scenario, given with its number and without its newline, and adds what it shows to the log.
     // A wrong line does nothing and shows nothing.
-    pub fn follow(&mut self, heap: Global, number: u64, line: &[u8], log: &mut String) -> Result<(), Wrong>
+    pub fn follow(
+        &mut self,
+        heap: Global,
+        number: u64,
+        line: &[u8],
+        log: &mut String,
+    ) -> Result<(), Wrong>
         ensures bank_follows { λ r. ⌜ LineFollowed (now (line .entry)) (now (self .entry) .bank) (now (self .exit) .bank) r ⌝ }
         ensures wrong_line_shows_nothing { λ r. ⌜ refused r (λ wrong. (wrong ≡ Word NoMemory) ⊎ (string-bytes (now (log .exit)) ≡ string-bytes (now (log .entry)))) ⌝ }
     {

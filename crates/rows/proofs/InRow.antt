@@ -59,8 +59,8 @@ row-grown meaning drives d =
 
 -- the same, of a push that may fail
 pub row-pushed :
-  {D : Type 0} (meaning : D → DriveMeaning) (drives after : List D) (d : D) (went : Bool)
-  → after ≡ cond went (drives ++ (d ∷ [])) drives
-  → inRow meaning after ≡ cond went (withDrive (inRow meaning drives) (meaning d)) (inRow meaning drives)
+    {D : Type 0} (meaning : D → DriveMeaning) (drives after : List D) (d : D) (went : Bool)
+    → after ≡ cond went (drives ++ (d ∷ [])) drives
+    → inRow meaning after ≡ cond went (withDrive (inRow meaning drives) (meaning d)) (inRow meaning drives)
 row-pushed meaning drives after d true is = ap (inRow meaning) is ∙ row-grown meaning drives d
 row-pushed meaning drives after d false is = ap (inRow meaning) is

@@ -11,13 +11,13 @@ use text::numbers::unsigned;
 use text::words::Words;
 
 // Whether a word is written so.
-pub fn is_written(word: &[u8], text: &[u8]) -> bool
+pub(crate) fn is_written(word: &[u8], text: &[u8]) -> bool
     ensures { λ r. ⌜ r ≡ sameBytes (now (word .entry)) (now (text .entry)) ⌝ }
 {
     word == text
 }
 
-pub fn take_word<'a>(words: &mut Words<'a>) -> Result<&'a [u8], Wrong>
+pub(crate) fn take_word<'a>(words: &mut Words<'a>) -> Result<&'a [u8], Wrong>
     ensures { λ r. ⌜ leaving (wordOf r) (wordsLeft (now (words .exit))) ≡ wordIn (wordsLeft (now (words .entry))) ⌝ }
 {
     match words.next() {
@@ -26,21 +26,21 @@ pub fn take_word<'a>(words: &mut Words<'a>) -> Result<&'a [u8], Wrong>
     }
 }
 
-pub fn take_unsigned(words: &mut Words<'_>, highest: u32) -> Result<u32, Wrong>
+pub(crate) fn take_unsigned(words: &mut Words<'_>, highest: u32) -> Result<u32, Wrong>
     ensures { λ r. ⌜ leaving r (wordsLeft (now (words .exit))) ≡ unsignedIn highest (wordsLeft (now (words .entry))) ⌝ }
 {
     let word = take_word(words)?;
     Ok(unsigned(word, highest)?)
 }
 
-pub fn take_signed(words: &mut Words<'_>, lowest: i32, highest: i32) -> Result<i32, Wrong>
+pub(crate) fn take_signed(words: &mut Words<'_>, lowest: i32, highest: i32) -> Result<i32, Wrong>
     ensures { λ r. ⌜ leaving r (wordsLeft (now (words .exit))) ≡ signedIn lowest highest (wordsLeft (now (words .entry))) ⌝ }
 {
     let word = take_word(words)?;
     Ok(signed(word, lowest, highest)?)
 }
 
-pub fn take_end(words: &mut Words<'_>) -> Result<(), Wrong>
+pub(crate) fn take_end(words: &mut Words<'_>) -> Result<(), Wrong>
     ensures { λ r. ⌜ r ≡ ended tt (wordsLeft (now (words .entry))) ⌝ }
 {
     match words.next() {

@@ -19,7 +19,7 @@ pub enum Keyword {
     Operation(Verb),
 }
 
-pub fn read_keyword(name: &[u8]) -> Option<Keyword>
+pub(crate) fn read_keyword(name: &[u8]) -> Option<Keyword>
     ensures { λ r. ⌜ r ≡ keywordOf (now (name .entry)) ⌝ }
 {
     if is_written(name, b"drive") {

@@ -1,6 +1,6 @@
 // Scenarios: what a line says.
 pub mod directive;
-pub mod grammar;
-pub mod keyword;
-pub mod make;
+mod grammar;
+mod keyword;
+mod make;
 pub mod wrong;

@@ -21,7 +21,7 @@ use text::words::Words;
 use windows::window::Limits;
 
 // A signed 32-bit number.
-pub fn take_value(words: &mut Words<'_>) -> Result<i32, Wrong>
+pub(crate) fn take_value(words: &mut Words<'_>) -> Result<i32, Wrong>
     ensures { λ r. ⌜ leaving r (wordsLeft (now (words .exit))) ≡ valueIn (wordsLeft (now (words .entry))) ⌝ }
 {
     take_signed(words, i32::MIN, i32::MAX)
@@ -64,7 +64,7 @@ fn take_limits(words: &mut Words<'_>) -> Result<Limits, Wrong>
 }
 
 // A drive: any number of windows, the outermost first, and then a make.
-pub fn take_drive(heap: Global, words: &mut Words<'_>) -> Result<ConfiguredDrive, Wrong>
+pub(crate) fn take_drive(heap: Global, words: &mut Words<'_>) -> Result<ConfiguredDrive, Wrong>
     ensures { λ r. ⌜ UnlessNoMemory (leaving (driveDescribed r) (wordsLeft (now (words .exit)))) (makeIn (wordsLeft (now (words .entry)))) ⌝ }
 {
     let mut limits = Vec::new(heap);
