@@ -8,10 +8,10 @@ use crate::target::Target;
 // Mode 0: no mode is chosen. Every drive knows it, and admits no value in it.
 pub const NO_MODE: i8 = 0;
 
-// CiA 402's profile position mode as our drives number it.
+// CiA 402's cyclic synchronous position mode.
 pub const POSITION_MODE: i8 = 8;
 
-// CiA 402's profile velocity mode as our drives number it.
+// CiA 402's cyclic synchronous velocity mode.
 pub const VELOCITY_MODE: i8 = 9;
 
 // The bytes of a field record.

@@ -9,9 +9,9 @@ use Rattle.drives.specs.Meaning.{Make, ownMake, DriveMeaning}
 use Rattle.drives.specs.Modes.{isMode, noMode, positionMode}
 use Rattle.makes.specs.Numbers.{wordAt, broughtInto, within}
 
--- k as it is kept: 1 to 1,000
-abbrev pub scaleKept : ℕ → ℕ
-scaleKept k = broughtInto 1 1000 k
+-- k as it counts: brought into 1 to 1,000
+abbrev pub scaleInRange : ℕ → ℕ
+scaleInRange k = broughtInto 1 1000 k
 
 abbrev pub cylinderKnows : ℤ → Bool
 cylinderKnows mode = isMode noMode mode || isMode positionMode mode

@@ -3,6 +3,7 @@
 --   Inverters   the inverter bits of a hoist and the troubles they name
 --   Hoists      the hoist
 --   Cylinders   the cylinder
+--   Meanings    what the two mean as the code has them
 pub mod Numbers
 pub mod Inverters
 pub mod Hoists

@@ -1,7 +1,7 @@
 // The oil cylinder.
 ghost use mathlib.Core.Path.{_≡_};
 ghost use Rattle.drives.specs.Holdings.{atRest};
-ghost use Rattle.makes.specs.Cylinders.{cylinderMeaning, scaleKept};
+ghost use Rattle.makes.specs.Cylinders.{cylinderMeaning, scaleInRange};
 ghost use Rattle.makes.specs.Meanings.{cylinderIs};
 use crate::scale::GREATEST_CURRENT;
 use crate::scale::LEAST_CURRENT;
@@ -27,7 +27,7 @@ pub struct Cylinder {
 impl Cylinder {
     // k in micrometres for a microampere, brought into its range.
     pub fn new(k: u32) -> Cylinder
-        ensures { λ r. ⌜ cylinderIs r ≡ cylinderMeaning (scaleKept k) atRest ⌝ }
+        ensures { λ r. ⌜ cylinderIs r ≡ cylinderMeaning (scaleInRange k) atRest ⌝ }
     {
         Cylinder {
             scale: Scale::new(k),

@@ -2,7 +2,7 @@
 ghost use mathlib.Core.Path.{_≡_};
 ghost use Prim.Native.Nat.{_*_};
 ghost use lib.IntN.{pos};
-ghost use Rattle.makes.specs.Cylinders.{scaleKept, currentPosition};
+ghost use Rattle.makes.specs.Cylinders.{scaleInRange, currentPosition};
 
 // The sensor's range in microamperes, and the current that stands for position 0.
 pub const LEAST_CURRENT: u16 = 3_600;
@@ -29,21 +29,21 @@ impl Scale {
 
     // Micrometres for a microampere: 1 to 1,000.
     pub fn k(&self) -> u32
-        ensures { λ r. ⌜ r ≡ scaleKept (now (self .entry) .given) ⌝ }
+        ensures { λ r. ⌜ r ≡ scaleInRange (now (self .entry) .given) ⌝ }
     {
         self.given.clamp(1, 1_000)
     }
 
     // The highest position.
     pub fn highest(&self) -> i32
-        ensures { λ r. ⌜ r ≡ pos (16000 * scaleKept (now (self .entry) .given)) ⌝ }
+        ensures { λ r. ⌜ r ≡ pos (16000 * scaleInRange (now (self .entry) .given)) ⌝ }
     {
         (SPAN * self.k()) as i32
     }
 
     // The position that a current stands for, the current first brought into its range.
     pub fn position(&self, current: u16) -> i32
-        ensures { λ r. ⌜ r ≡ currentPosition (scaleKept (now (self .entry) .given)) current ⌝ }
+        ensures { λ r. ⌜ r ≡ currentPosition (scaleInRange (now (self .entry) .given)) current ⌝ }
     {
         let current = current.clamp(LEAST_CURRENT, GREATEST_CURRENT);
         let k = self.k();

@@ -11,7 +11,7 @@ use Rattle.drives.specs.Holdings.{atRest}
 use Rattle.drives.specs.Meaning.{DriveMeaning}
 use Rattle.windows.specs.declared.window.Limits.{Limits}
 use Rattle.makes.specs.Hoists.{hoistMeaning}
-use Rattle.makes.specs.Cylinders.{cylinderMeaning, scaleKept}
+use Rattle.makes.specs.Cylinders.{cylinderMeaning, scaleInRange}
 use Rattle.stacks.specs.Enclosures.{enclosed}
 use Rattle.scenario.specs.declared.wrong.Wrong.{Wrong}
 use Rattle.scenario.specs.declared.wrong.Wrong.the-variants.{UnknownMake, MissingWord}
@@ -27,7 +27,7 @@ hoistIn ws =
 
 -- cylinder K
 abbrev pub cylinderIn : Words → Taken DriveMeaning
-cylinderIn ws = andThen (unsignedIn 4294967295 ws) (λ k rest. Ok (cylinderMeaning (scaleKept k) atRest, rest))
+cylinderIn ws = andThen (unsignedIn 4294967295 ws) (λ k rest. Ok (cylinderMeaning (scaleInRange k) atRest, rest))
 
 -- A make by its name.
 unfoldable pub namedIn : List ℕ → Words → Taken DriveMeaning
