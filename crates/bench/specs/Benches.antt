@@ -1,7 +1,7 @@
 -- The bank on the bench, and what a line makes of it.
 use Prim.Native.Nat.{ℕ}
 use mathlib.Core.Path.{_≡_}
-use mathlib.Core.List.{List}
+use mathlib.Core.List.{List, [], _∷_, _++_}
 use mathlib.Core.Logic.{_⊎_}
 use lib.Chars.{codes}
 use lib.ListN.{length}
@@ -24,7 +24,11 @@ use Rattle.scenario.specs.declared.directive.Operation.the-variants.{Energise, 
 use Rattle.scenario.specs.Described.{stackIs}
 use Rattle.scenario.specs.Directives.{Said, Declares, Operates, lineSays}
 use Rattle.bench.specs.declared.log.BenchLine.{BenchLine}
+use Rattle.bench.specs.Texts.{lineText}
 use Rattle.bench.specs.Operations.{operated, operationAnswer}
+
+abbrev pub newline : ℕ
+newline = 10
 
 abbrev pub bankIs : Row (Stack AnyMake) → List DriveMeaning
 bankIs bank = inRow stackIs (vec-items (bank .drives))
@@ -65,8 +69,27 @@ pub record LineShows (line : ℕ) (said : Said) (before after : Row (Stack AnyMa
   pub drive-number : shown .drive .number ≡ numberOf said before
   pub drive-shown : shown .drive .held ≡ driveAt (bankIs after) (shown .drive .number) .held
 
--- What a line of the scenario leaves: the bank has followed it, or the line is wrong and nothing has changed,
--- unless memory was wanting.
-abbrev pub LineFollowed : List ℕ → Row (Stack AnyMake) → Row (Stack AnyMake) → Result (Unit {0}) Wrong → Type 0
-LineFollowed line before after (Ok done) = (said : Option Said) × (Ok said ≡ lineSays line) × (bankIs after ≡ followed said (bankIs before))
-LineFollowed line before after (Err wrong) = (wrong ≡ Word NoMemory) ⊎ ((Err wrong ≡ lineSays line) × (bankIs after ≡ bankIs before))
+-- What the log shows of what is said: nothing of a line without a word, else a line of its own.
+abbrev pub logOf : ℕ → Option Said → Row (Stack AnyMake) → Row (Stack AnyMake) → List ℕ
+logOf number None before after = []
+logOf number (Some said) before after =
+    lineText number (nameOf said) (answerTo said (bankIs before)) (numberOf said before)
+    (driveAt (bankIs after) (numberOf said before) .held)
+    ++ (newline ∷ [])
+
+-- A line of the scenario was followed: the bank has done what it says, and the log shows it.
+pub record Followed (number : ℕ) (line : List ℕ) (before after : Row (Stack AnyMake)) (log longer : List ℕ) : Type 0 where
+  pub said : Option Said
+  pub line-says : Ok said ≡ lineSays line
+  pub bank-follows : bankIs after ≡ followed said (bankIs before)
+  pub log-shows : longer ≡ log ++ logOf number said before after
+
+-- A line is wrong: the bank and the log are as they were.
+pub record PassedOver (line : List ℕ) (before after : Row (Stack AnyMake)) (log same : List ℕ) (wrong : Wrong) : Type 0 where
+  pub line-is-wrong : Err wrong ≡ lineSays line
+  pub bank-stays : bankIs after ≡ bankIs before
+  pub log-stays : same ≡ log
+
+abbrev pub LineFollowed : ℕ → List ℕ → Row (Stack AnyMake) → Row (Stack AnyMake) → List ℕ → List ℕ → Result (Unit {0}) Wrong → Type 0
+LineFollowed number line before after log longer (Ok done) = Followed number line before after log longer
+LineFollowed number line before after log longer (Err wrong) = (wrong ≡ Word NoMemory) ⊎ PassedOver line before after log longer wrong

@@ -1,10 +1,8 @@
 // What the directives of the bench part make of a bank.
 ghost use mathlib.Core.Path.{_≡_};
 ghost use mathlib.Core.List.{[]};
-ghost use mathlib.Core.Logic.{_⊎_};
 ghost use Rattle.std.specs.Of.String.{string-bytes};
 ghost use Rattle.std.specs.Results.{Cases};
-ghost use Rattle.std.specs.Vec.{refused};
 ghost use Rattle.banks.specs.Lists.{driveAt, changed};
 ghost use Rattle.text.specs.declared.fault.Fault.the-variants.{NoMemory};
 ghost use Rattle.scenario.specs.declared.wrong.Wrong.the-variants.{Word};
@@ -134,8 +132,7 @@ impl Bench {
         line: &[u8],
         log: &mut String,
     ) -> Result<(), Wrong>
-        ensures bank_follows { λ r. ⌜ LineFollowed (now (line .entry)) (now (self .entry) .bank) (now (self .exit) .bank) r ⌝ }
-        ensures wrong_line_shows_nothing { λ r. ⌜ refused r (λ wrong. (wrong ≡ Word NoMemory) ⊎ (string-bytes (now (log .exit)) ≡ string-bytes (now (log .entry)))) ⌝ }
+        ensures { λ r. ⌜ LineFollowed number (now (line .entry)) (now (self .entry) .bank) (now (self .exit) .bank) (string-bytes (now (log .entry))) (string-bytes (now (log .exit))) r ⌝ }
     {
         let Some(directive) = read_directive(heap, line)? else {
             return Ok(());

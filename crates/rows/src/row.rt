@@ -67,7 +67,7 @@ pub impl<D: Drive> Bank for Row<D> as RowBank {
     ghost meanings = { λ b. inRow (D·Drive .meaning) (vec-items (b .drives)) };
 
     fn count(&self) -> u8 {
-        self.drives.len().min(MOST) as u8
+        self.len().min(MOST) as u8
     }
 
     fn energise_at(&mut self, number: u8) {

@@ -10,6 +10,12 @@ use drives::target::Cause;
 use drives::target::Refusal;
 use drives::target::Target;
 
+// What a window answers to a target that it keeps out.
+const KEPT_OUT: Refusal = Refusal {
+    cause: Cause::Window,
+    depth: 0,
+};
+
 // A low and a high position. Low above high is left as it is, and keeps every position out.
 #[derive(Clone, Copy)]
 pub struct Limits {
@@ -42,10 +48,7 @@ impl Limits {
         ensures { λ r. ⌜ r ≡ refusalAbove (now (self .entry)) position target below ⌝ }
     {
         if self.keep_out(position, target) {
-            return Some(Refusal {
-                cause: Cause::Window,
-                depth: 0,
-            });
+            return Some(KEPT_OUT);
         }
         match below {
             Some(refusal) => Some(refusal.deepened()),
@@ -93,10 +96,7 @@ pub impl<D: Drive> Drive for Window<D> as WindowDrive {
 
     fn take(&mut self, target: Target) -> Result<(), Refusal> {
         if self.limits.keep_out(self.below.held().position, target) {
-            return Err(Refusal {
-                cause: Cause::Window,
-                depth: 0,
-            });
+            return Err(KEPT_OUT);
         }
         match self.below.take(target) {
             Ok(()) => Ok(()),
