@@ -1,2 +1,2 @@
-pub mod Found
+pub mod Cuts
 pub mod Swept

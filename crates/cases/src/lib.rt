@@ -3,15 +3,15 @@
 mod sides {
     use banks::bank::Bank;
     use banks::bank::de_energise_all;
-    use banks::pair::Pair;
-    use banks::pair::PairBank;
+    use pairs::pair::Pair;
+    use pairs::pair::PairBank;
     use banks::single::DriveBank;
     use drives::drive::Drive;
     use drives::target::Target;
-    use makes::cylinder::Cylinder;
-    use makes::cylinder::CylinderDrive;
-    use makes::hoist::Hoist;
-    use makes::hoist::HoistDrive;
+    use cylinders::cylinder::Cylinder;
+    use cylinders::cylinder::CylinderDrive;
+    use hoists::hoist::Hoist;
+    use hoists::hoist::HoistDrive;
     use rows::row::Row;
     use rows::row::RowBank;
     use std::test::*;

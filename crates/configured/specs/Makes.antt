@@ -1,6 +1,7 @@
 -- A make chosen at run time means what the chosen drive means.
 use Rattle.drives.specs.Meaning.{DriveMeaning}
-use Rattle.makes.specs.Meanings.{hoistIs, cylinderIs}
+use Rattle.hoists.specs.Meanings.{hoistIs}
+use Rattle.cylinders.specs.Meanings.{cylinderIs}
 use Rattle.configured.specs.declared.make.AnyMake.{AnyMake}
 use Rattle.configured.specs.declared.make.AnyMake.the-variants.{Hoist, Cylinder}
 

@@ -5,10 +5,10 @@ use drives::drive::RECORD_LENGTH;
 use drives::held::Held;
 use drives::target::Refusal;
 use drives::target::Target;
-use makes::cylinder::Cylinder;
-use makes::cylinder::CylinderDrive;
-use makes::hoist::Hoist;
-use makes::hoist::HoistDrive;
+use cylinders::cylinder::Cylinder;
+use cylinders::cylinder::CylinderDrive;
+use hoists::hoist::Hoist;
+use hoists::hoist::HoistDrive;
 
 #[derive(Drop)]
 pub enum AnyMake {

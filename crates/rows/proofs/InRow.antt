@@ -9,7 +9,7 @@ use Rattle.std.proofs.shelf.Elements.{all-take}
 use Rattle.std.proofs.shelf.Lists.{map-append, length-map, length-take, getD-map, getD-take, getD-past, map-set, set-past}
 use Rattle.drives.specs.Meaning.{DriveMeaning, Lawful}
 use Rattle.banks.specs.Lists.{most, absent, driveAt, changed, AllLawful}
-use Rattle.banks.proofs.Found.{take-set}
+use Rattle.banks.proofs.Cuts.{take-set}
 use Rattle.rows.specs.Rows.{inRow, withDrive, AtPlace, Beyond}
 
 module _ {D : Type 0} (meaning : D → DriveMeaning) (drives : List D) where

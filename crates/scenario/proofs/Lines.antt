@@ -6,7 +6,7 @@ use Rattle.std.specs.declared.option.Option.{Option}
 use Rattle.std.specs.declared.option.Option.the-variants.{Some}
 use Rattle.std.specs.declared.result.Result.{Result}
 use Rattle.std.specs.declared.result.Result.the-variants.{Ok, Err}
-use Rattle.text.specs.Lines.{wordsOf}
+use Rattle.lines.specs.Lines.{wordsOf}
 use Rattle.scenario.specs.declared.keyword.Keyword.{Keyword}
 use Rattle.scenario.specs.declared.wrong.Wrong.{Wrong}
 use Rattle.scenario.specs.Grammar.{Words, andThen, ended}

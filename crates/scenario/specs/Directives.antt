@@ -13,7 +13,7 @@ use Rattle.std.specs.declared.result.Result.the-variants.{Ok, Err}
 use Rattle.drives.specs.declared.target.Target.{Target}
 use Rattle.drives.specs.Meaning.{DriveMeaning}
 use Rattle.text.specs.ByteTexts.{bytesOf}
-use Rattle.text.specs.Lines.{wordsOf}
+use Rattle.lines.specs.Lines.{wordsOf}
 use Rattle.scenario.specs.declared.directive.Operation.{Operation}
 use Rattle.scenario.specs.declared.directive.Operation.the-variants as Operation
 use Rattle.scenario.specs.declared.keyword.Keyword.{Keyword}

@@ -10,8 +10,8 @@ use Rattle.std.specs.declared.result.Result.the-variants.{Ok, Err}
 use Rattle.drives.specs.Holdings.{atRest}
 use Rattle.drives.specs.Meaning.{DriveMeaning}
 use Rattle.windows.specs.declared.window.Limits.{Limits}
-use Rattle.makes.specs.Hoists.{hoistMeaning}
-use Rattle.makes.specs.Cylinders.{cylinderMeaning, scaleInRange}
+use Rattle.hoists.specs.Hoists.{hoistMeaning}
+use Rattle.cylinders.specs.Cylinders.{cylinderMeaning, scaleInRange}
 use Rattle.stacks.specs.Enclosures.{enclosed}
 use Rattle.scenario.specs.declared.wrong.Wrong.{Wrong}
 use Rattle.scenario.specs.declared.wrong.Wrong.the-variants.{UnknownMake, MissingWord}

@@ -1,6 +1,6 @@
 // What a line of the bench part says.
 ghost use mathlib.Core.Path.{_≡_};
-ghost use Rattle.text.specs.Lines.{wordsLeft};
+ghost use Rattle.lines.specs.Lines.{wordsLeft};
 ghost use Rattle.scenario.specs.Grammar.{leaving, driveIn, modeIn, UnlessNoMemory};
 ghost use Rattle.scenario.specs.Directives.{recordIn, targetIn, operationIn, argumentsIn, lineSays};
 ghost use Rattle.scenario.specs.Heard.{heard, heardLine};
@@ -20,7 +20,7 @@ use drives::drive::RECORD_LENGTH;
 use drives::target::Target;
 use std::alloc::Global;
 use text::bytes::bytes;
-use text::words::Words;
+use lines::words::Words;
 
 // An operation on a drive, with what it is given.
 #[derive(Clone, Copy)]

@@ -2,13 +2,13 @@
 ghost use mathlib.Core.Path.{_≡_};
 ghost use lib.IntN.{pos, negsuc};
 ghost use Rattle.std.specs.shelf.Text.{sameBytes};
-ghost use Rattle.text.specs.Lines.{wordsLeft};
+ghost use Rattle.lines.specs.Lines.{wordsLeft};
 ghost use Rattle.scenario.specs.Grammar.{leaving, wordOf, wordIn, unsignedIn, signedIn, ended};
 use crate::wrong::Wrong;
 use crate::wrong::WrongFromFault;
 use text::numbers::signed;
 use text::numbers::unsigned;
-use text::words::Words;
+use lines::words::Words;
 
 // Whether a word is written so.
 pub(crate) fn is_written(word: &[u8], text: &[u8]) -> bool

@@ -1,6 +1,6 @@
 // The drive that words describe.
 ghost use mathlib.Core.Path.{_≡_};
-ghost use Rattle.text.specs.Lines.{wordsLeft};
+ghost use Rattle.lines.specs.Lines.{wordsLeft};
 ghost use Rattle.scenario.specs.Grammar.{leaving, valueIn, UnlessNoMemory};
 ghost use Rattle.scenario.specs.Makes.{hoistIn, cylinderIn, namedIn, limitsIn, makeIn};
 ghost use Rattle.scenario.specs.Described.{makeDescribed, driveDescribed};
@@ -13,11 +13,11 @@ use crate::wrong::WrongFromRefused;
 use configured::ConfiguredDrive;
 use configured::make::AnyMake;
 use configured::make::AnyMakeDrive;
-use makes::cylinder::Cylinder;
-use makes::hoist::Hoist;
+use cylinders::cylinder::Cylinder;
+use hoists::hoist::Hoist;
 use stacks::stack::Stack;
 use std::alloc::Global;
-use text::words::Words;
+use lines::words::Words;
 use windows::window::Limits;
 
 // A signed 32-bit number.

@@ -1,4 +1,3 @@
 mod ByteLaws
-mod LineLaws
 mod NumberLaws
 mod RangeLaws

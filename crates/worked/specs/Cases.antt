@@ -13,9 +13,9 @@ use Rattle.drives.specs.declared.target.Target.{Target}
 use Rattle.drives.specs.Meaning.{DriveMeaning, readingOf, refusedBy, taken, takeAnswer}
 use Rattle.drives.specs.Refusals.{refusalCode}
 use Rattle.windows.specs.Windows.{windowed}
-use Rattle.makes.specs.Cylinders.{cylinderMeaning}
-use Rattle.makes.specs.Hoists.{hoistMeaning}
-use Rattle.makes.specs.Numbers.{wordAt}
+use Rattle.cylinders.specs.Cylinders.{cylinderMeaning}
+use Rattle.hoists.specs.Hoists.{hoistMeaning}
+use Rattle.drives.specs.Numbers.{wordAt}
 
 -- A target of position mode.
 abbrev pub position : ℕ → Target

@@ -1,6 +1,6 @@
 use mathlib.Core.Path.{refl, ap}
-use Rattle.makes.specs.Cylinders.{currentTrouble, currentPosition}
-use Rattle.makes.specs.Inverters.{inverterTrouble, lowestNamed}
+use Rattle.cylinders.specs.Cylinders.{currentTrouble, currentPosition}
+use Rattle.hoists.specs.Inverters.{inverterTrouble, lowestNamed}
 use Rattle.worked.proofs.worked_cases_hold.Needs as need
 
 pub returns : need.returns

@@ -1,7 +1,7 @@
 use mathlib.Core.Logic.{inr}
 use Rattle.std.proofs.shelf.Results.{err-from-errBy}
 use Rattle.std.specs.declared.option.Option.the-variants.{Some}
-use Rattle.text.specs.Lines.{wordsLeft}
+use Rattle.lines.specs.Lines.{wordsLeft}
 use Rattle.scenario.specs.Grammar.{ended}
 use Rattle.scenario.specs.Directives.{argumentsIn}
 use Rattle.scenario.specs.Heard.{says}

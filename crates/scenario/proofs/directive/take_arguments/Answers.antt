@@ -2,7 +2,7 @@ use mathlib.Core.Path.{refl}
 use mathlib.Core.Logic.{inr}
 use Rattle.std.proofs.shelf.Results.{err-from-errBy}
 use Rattle.std.specs.declared.result.Result.the-variants.{Ok, Err}
-use Rattle.text.specs.Lines.{wordsLeft}
+use Rattle.lines.specs.Lines.{wordsLeft}
 use Rattle.scenario.specs.Grammar.{Words, andThen, driveIn}
 use Rattle.scenario.specs.Described.{stackIs}
 use Rattle.scenario.specs.Directives.{Said, Declares, Operates, operationIn, argumentsIn}

@@ -3,7 +3,7 @@ use lib.IntN.{pos, negsuc}
 use mir.Syntax.{w8, w32}
 use mir.Val.{SFits}
 use Rattle.std.proofs.shelf.Signed.{toZ-ofZ}
-use Rattle.text.specs.Lines.{wordsLeft}
+use Rattle.lines.specs.Lines.{wordsLeft}
 use Rattle.scenario.proofs.NextWord.{mode-fits}
 use Rattle.scenario.proofs.directive.take_mode.Needs as need
 

@@ -1,5 +1,5 @@
 use native.Mathlib.Omega.{arith}
-use Rattle.text.specs.Lines.{wordsLeft}
+use Rattle.lines.specs.Lines.{wordsLeft}
 use Rattle.scenario.proofs.NextWord.{unsigned-range}
 use Rattle.scenario.proofs.directive.take_number.Needs as need
 

@@ -2,7 +2,7 @@ use mathlib.Core.Path.{refl}
 use mathlib.Core.Logic.{inr}
 use Rattle.std.proofs.shelf.Results.{err-from-errBy}
 use Rattle.std.specs.declared.result.Result.the-variants.{Ok, Err}
-use Rattle.text.specs.Lines.{wordsLeft}
+use Rattle.lines.specs.Lines.{wordsLeft}
 use Rattle.scenario.specs.declared.directive.Operation.{Operation}
 use Rattle.scenario.specs.declared.directive.Operation.the-variants.{Sample, Take}
 use Rattle.scenario.specs.Grammar.{Words}

@@ -3,7 +3,7 @@ use lib.ListN.{length}
 use mathlib.Core.Logic.{inr}
 use Rattle.std.proofs.shelf.Results.{err-from-errBy}
 use Rattle.std.specs.Of.Vec.{vec-items}
-use Rattle.text.specs.Lines.{wordsLeft}
+use Rattle.lines.specs.Lines.{wordsLeft}
 use Rattle.scenario.proofs.Records.{record-missing, record-read, record-length, record-wrong}
 use Rattle.scenario.proofs.directive.take_record.Needs as need
 

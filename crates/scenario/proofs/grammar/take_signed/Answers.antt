@@ -4,7 +4,7 @@ use mir.Val.{SFits}
 use Rattle.std.proofs.shelf.Signed.{toZ-ofZ}
 use Rattle.std.specs.declared.result.Result.the-variants.{Ok, Err}
 use Rattle.std.proofs.shelf.Results.{err-from-errBy}
-use Rattle.text.specs.Lines.{wordsLeft}
+use Rattle.lines.specs.Lines.{wordsLeft}
 use Rattle.text.specs.Numerals.{signedOf}
 use Rattle.scenario.proofs.NextWord.{read-found, none-found}
 use Rattle.scenario.proofs.grammar.take_signed.Needs as need

@@ -1,6 +1,6 @@
 use Rattle.std.specs.declared.result.Result.the-variants.{Ok, Err}
 use Rattle.std.proofs.shelf.Results.{err-from-errBy}
-use Rattle.text.specs.Lines.{wordsLeft}
+use Rattle.lines.specs.Lines.{wordsLeft}
 use Rattle.text.specs.Numerals.{unsignedOf}
 use Rattle.scenario.proofs.NextWord.{read-found, none-found}
 use Rattle.scenario.proofs.grammar.take_unsigned.Needs as need

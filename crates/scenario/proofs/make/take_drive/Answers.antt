@@ -8,7 +8,7 @@ use Rattle.std.specs.Of.Vec.{vec-items}
 use Rattle.std.specs.declared.result.Result.the-variants.{Ok, Err}
 use Rattle.configured.specs.Makes.{makeIs}
 use Rattle.stacks.specs.Enclosures.{enclosed}
-use Rattle.text.specs.Lines.{wordsLeft}
+use Rattle.lines.specs.Lines.{wordsLeft}
 use Rattle.scenario.specs.Makes.{makeIn}
 use Rattle.scenario.specs.Described.{stackIs}
 use Rattle.scenario.proofs.Turns.{Still, no-name, window-read, wrong-limits, wrong-make, make-read, turn-shorter}

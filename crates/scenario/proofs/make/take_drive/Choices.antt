@@ -1,7 +1,7 @@
 use mathlib.Core.List.{reverse}
 use lib.ListN.{length}
 use Rattle.std.specs.Of.Vec.{vec-items}
-use Rattle.text.specs.Lines.{wordsLeft}
+use Rattle.lines.specs.Lines.{wordsLeft}
 use Rattle.scenario.specs.Makes.{makeIn}
 use Rattle.scenario.proofs.Turns.{Still}
 use Rattle.scenario.proofs.make.take_drive.Given as given

@@ -1,4 +1,5 @@
-use Rattle.makes.proofs.MakeLaws.{hoist-lawful, cylinder-lawful}
+use Rattle.hoists.proofs.HoistLaws.{hoist-lawful}
+use Rattle.cylinders.proofs.CylinderLaws.{cylinder-lawful}
 use Rattle.configured.specs.declared.make.AnyMake.the-variants.{Hoist, Cylinder}
 use Rattle.configured.proofs.make.AnyMakeDrive.the-impl.Needs as need
 

@@ -1,0 +1,2 @@
+pub mod CylinderLaws
+mod Products

@@ -1,0 +1,3 @@
+// The oil cylinder.
+pub mod cylinder;
+pub mod scale;

@@ -1,0 +1,2 @@
+pub mod HoistLaws
+mod LowestBit

@@ -1,0 +1,3 @@
+// The chain hoist.
+pub mod hoist;
+pub mod inverter;

@@ -1,4 +1,0 @@
-pub mod LowestBit
-pub mod MakeLaws
-pub mod OwnLaws
-pub mod Products

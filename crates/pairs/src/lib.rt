@@ -1,0 +1,2 @@
+// Two banks side by side.
+pub mod pair;
