@@ -3,15 +3,15 @@
 mod sides {
     use banks::bank::Bank;
     use banks::bank::de_energise_all;
-    use pairs::pair::Pair;
-    use pairs::pair::PairBank;
     use banks::single::DriveBank;
-    use drives::drive::Drive;
-    use drives::target::Target;
     use cylinders::cylinder::Cylinder;
     use cylinders::cylinder::CylinderDrive;
+    use drives::drive::Drive;
+    use drives::target::Target;
     use hoists::hoist::Hoist;
     use hoists::hoist::HoistDrive;
+    use pairs::pair::Pair;
+    use pairs::pair::PairBank;
     use rows::row::Row;
     use rows::row::RowBank;
     use std::test::*;

@@ -1,12 +1,12 @@
 // A make that is chosen at run time.
 ghost use Rattle.configured.specs.Makes.{makeIs};
+use cylinders::cylinder::Cylinder;
+use cylinders::cylinder::CylinderDrive;
 use drives::drive::Drive;
 use drives::drive::RECORD_LENGTH;
 use drives::held::Held;
 use drives::target::Refusal;
 use drives::target::Target;
-use cylinders::cylinder::Cylinder;
-use cylinders::cylinder::CylinderDrive;
 use hoists::hoist::Hoist;
 use hoists::hoist::HoistDrive;
 

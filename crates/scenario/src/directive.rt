@@ -18,9 +18,9 @@ use crate::wrong::WrongFromFault;
 use configured::ConfiguredDrive;
 use drives::drive::RECORD_LENGTH;
 use drives::target::Target;
+use lines::words::Words;
 use std::alloc::Global;
 use text::bytes::bytes;
-use lines::words::Words;
 
 // An operation on a drive, with what it is given.
 #[derive(Clone, Copy)]

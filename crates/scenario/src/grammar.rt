@@ -6,9 +6,9 @@ ghost use Rattle.lines.specs.Lines.{wordsLeft};
 ghost use Rattle.scenario.specs.Grammar.{leaving, wordOf, wordIn, unsignedIn, signedIn, ended};
 use crate::wrong::Wrong;
 use crate::wrong::WrongFromFault;
+use lines::words::Words;
 use text::numbers::signed;
 use text::numbers::unsigned;
-use lines::words::Words;
 
 // Whether a word is written so.
 pub(crate) fn is_written(word: &[u8], text: &[u8]) -> bool

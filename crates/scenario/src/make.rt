@@ -15,9 +15,9 @@ use configured::make::AnyMake;
 use configured::make::AnyMakeDrive;
 use cylinders::cylinder::Cylinder;
 use hoists::hoist::Hoist;
+use lines::words::Words;
 use stacks::stack::Stack;
 use std::alloc::Global;
-use lines::words::Words;
 use windows::window::Limits;
 
 // A signed 32-bit number.
