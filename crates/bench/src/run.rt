@@ -30,11 +30,7 @@ use std::fmt::Write;
 use text::fault::Fault;
 
 // Carries out an operation on the drive of a number. Only a take answers.
-pub fn operate<B: Bank>(
-    bank: &mut B,
-    number: u8,
-    operation: Operation,
-) -> Option<Result<(), Refusal>>
+fn operate<B: Bank>(bank: &mut B, number: u8, operation: Operation) -> Option<Result<(), Refusal>>
     ensures one_drive_changes { λ _. ⌜ meanings (now (bank .exit)) ≡ changed (operated operation) (meanings (now (bank .entry))) number ⌝ }
     ensures answers { λ r. ⌜ r ≡ operationAnswer operation (driveAt (meanings (now (bank .entry))) number) ⌝ }
 {
@@ -60,7 +56,7 @@ pub fn operate<B: Bank>(
 }
 
 // What the drive of a number holds, where the number may be any: past 254 it is beyond every bank.
-pub fn held_by<B: Bank>(bank: &B, number: usize) -> Held
+fn held_by<B: Bank>(bank: &B, number: usize) -> Held
     ensures { λ r. ⌜ r ≡ driveAt (meanings (now (bank .entry))) number .held ⌝ }
 {
     match u8::try_from(number) {
@@ -100,7 +96,7 @@ impl Bench {
 
     // Carries out a directive that stands on a line of the scenario, and gives the log's line for it.
     // Where memory is wanting nothing changes.
-    pub fn carry_out(&mut self, line: u64, directive: Directive) -> Result<BenchLine, Wrong>
+    fn carry_out(&mut self, line: u64, directive: Directive) -> Result<BenchLine, Wrong>
         ensures { λ r. ⌜ Cases r (LineShows line (says directive) (now (self .entry) .bank) (now (self .exit) .bank)) (λ wrong. (wrong ≡ Word NoMemory) × (bankIs (now (self .exit) .bank) ≡ bankIs (now (self .entry) .bank))) ⌝ }
     {
         let (name, answer, number) = match directive {

@@ -12,8 +12,6 @@ mod sides {
     use hoists::hoist::HoistDrive;
     use pairs::pair::Pair;
     use pairs::pair::PairBank;
-    use rows::row::Row;
-    use rows::row::RowBank;
     use std::test::*;
     use windows::window::Window;
     use windows::window::WindowDrive;
@@ -53,23 +51,6 @@ mod sides {
         check(!bank.knows_at(3, 0))?;
         de_energise_all(&mut bank);
         check_power(&bank, &[false, false, false])
-    }
-
-    #[test]
-    fn two_full_rows_have_255_drives(rt: LibcRuntime) -> Result<(), Fail> {
-        let mut first = Row::new(rt.alloc());
-        let mut second = Row::new(rt.alloc());
-        for _ in 0..300 {
-            first.push(Hoist::new(0, 10, 1))?;
-            second.push(Hoist::new(0, 10, 1))?;
-        }
-        check_eq(first.len(), 300)?;
-        let mut bank = Pair::new(first, second);
-        check_eq(bank.count(), 255)?;
-        bank.energise_at(254);
-        bank.energise_at(255);
-        check(bank.held_at(254).powered)?;
-        check(!bank.held_at(255).powered)
     }
 
     #[test]
