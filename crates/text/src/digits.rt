@@ -3,7 +3,7 @@ ghost use mathlib.Core.Path.{_≡_};
 ghost use Rattle.text.specs.Digits.{digitOf};
 
 // The value of a hexadecimal digit, upper or lower case.
-pub fn digit(byte: u8) -> Option<u8>
+pub(crate) fn digit(byte: u8) -> Option<u8>
     ensures { λ r. ⌜ r ≡ digitOf byte ⌝ }
 {
     match byte {
