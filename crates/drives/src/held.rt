@@ -1,6 +1,5 @@
 // What a drive holds, and what the operations make of it.
 ghost use mathlib.Core.Path.{_≡_};
-ghost use mathlib.Core.Bool.{Bool};
 ghost use Rattle.drives.specs.Holdings.{atRest, energisedHeld, deEnergisedHeld, holding, readHeld, ownRefusal, takenHeld, answered};
 use crate::target::Cause;
 use crate::target::Refusal;
