@@ -1,5 +1,7 @@
 // Tests by a table: standard input holds scenarios, each on a bench of its own that begins after a line of dashes.
 // What a line writes to the log is printed, or what is wrong with it; the next line is then followed all the same.
+#![tactic(auto)]
+
 use bench::run::Bench;
 use std::io::{BufRead, BufReader};
 

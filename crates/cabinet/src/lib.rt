@@ -1,4 +1,6 @@
 // The gate cabinet: making, AL requests, cycles, and questions. Nothing here allocates.
+#![tactic(auto)]
+
 pub mod cabinet;
 pub mod cycle;
 pub mod request;

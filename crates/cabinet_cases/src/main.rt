@@ -1,5 +1,7 @@
 // Tests by a table: standard input holds scenarios, each of which begins after a line of dashes and has its own line
 // numbers. The log of each is printed as `gatelog` prints it; a wrong line ends its scenario with a line that says so.
+#![tactic(auto)]
+
 use replay::stage::Replay;
 use std::io::{BufRead, BufReader};
 

@@ -1,2 +1,4 @@
 // The lines of a call to one cabinet, or to two with different delays.
+#![tactic(auto)]
+
 pub mod call_lines;

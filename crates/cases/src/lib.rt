@@ -1,4 +1,6 @@
 // Tests of what a scenario cannot show: windows and banks whose number stands in their type.
+#![tactic(auto)]
+
 #[cfg(test)]
 mod sides {
     use banks::bank::{Bank, de_energise_all};

@@ -1,4 +1,6 @@
 // Drives and banks that a program puts together at run time.
+#![tactic(auto)]
+
 pub mod make;
 
 use make::AnyMake;

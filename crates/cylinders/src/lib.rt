@@ -1,3 +1,5 @@
 // The oil cylinder.
+#![tactic(auto)]
+
 pub mod cylinder;
 pub mod scale;

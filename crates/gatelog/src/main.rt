@@ -3,6 +3,8 @@
 //     gatelog [SCENARIO]
 //
 // The scenario is read from the file that the argument names, else from standard input.
+#![tactic(auto)]
+
 use anyhow::anyhow;
 use replay::stage::Replay;
 use std::env;

@@ -1,3 +1,5 @@
 // The chain hoist.
+#![tactic(auto)]
+
 pub mod hoist;
 pub mod inverter;

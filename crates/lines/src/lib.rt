@@ -1,2 +1,4 @@
 // What a line of a scenario and a word of it is.
+#![tactic(auto)]
+
 pub mod words;

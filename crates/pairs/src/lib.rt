@@ -1,2 +1,4 @@
 // Two banks side by side.
+#![tactic(auto)]
+
 pub mod pair;

@@ -1,4 +1,6 @@
 // The drive profile of CiA 402: commands, states, the statusword, and an axis's row of the return image.
+#![tactic(auto)]
+
 pub mod command;
 pub mod image;
 pub mod state;

@@ -1,2 +1,4 @@
 // Any number of drives in a row.
+#![tactic(auto)]
+
 pub mod row;

@@ -1,4 +1,6 @@
 // Scenarios: what a line of the bench part says.
+#![tactic(auto)]
+
 pub mod directive;
 mod keyword;
 mod make;

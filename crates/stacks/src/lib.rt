@@ -1,2 +1,4 @@
 // Any number of windows over a drive.
+#![tactic(auto)]
+
 pub mod stack;

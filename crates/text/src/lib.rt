@@ -1,4 +1,6 @@
 // What a number and a byte string of a scenario is.
+#![tactic(auto)]
+
 pub mod bytes;
 mod digits;
 pub mod fault;

@@ -1,2 +1,4 @@
 // Windows over any drive.
+#![tactic(auto)]
+
 pub mod window;
