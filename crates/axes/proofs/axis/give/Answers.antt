@@ -9,12 +9,12 @@ returns-in-Err g c =
     let drives = g.B.Bank.meanings c.args.bank.now in
     let i = c.args.number in
     let target = c.in-Some.target in
-    let answer : take_answer target (drive_at drives i) ≡ Err c.in-Err.refusal = sym c.take-at.ensures.answers ∙ c.in-Err.is in
+    let answer : take_answer target (drive_at drives i) ≡ Err c.in-Err.refusal = sym c.take_at.ensures.answers ∙ c.in-Err.is in
     rw c.in-Some.is
     (record {
       driven =
-          c.hold-at-in-Err.ensures
-          ∙ ap (λ ds. changed held_still ds i) c.take-at.ensures.carries
+          c.hold_at-in-Err.ensures
+          ∙ ap (λ ds. changed held_still ds i) c.take_at.ensures.carries
           ∙ held_after_refusal target drives i c.in-Err.refusal answer;
       tells = refusal_told target drives i c.in-Err.refusal answer;
     })

@@ -8,7 +8,7 @@ pub loop-number-preserved : goal.loop-number-preserved
 loop-number-preserved g c =
     let before = g.B.Bank.meanings c.args.bank.now in
     let i = c.loop-number.number in
-    c.de-energise-at.ensures
+    c.de_energise_at.ensures
     ∙ ap (λ drives. changed de_energised drives i) c.loop-number.invariant
     ∙ swept_more de_energised before i (omega (arith, c.count-count.ensures))
 

@@ -7,4 +7,4 @@ pub returns-in-Err : goal.returns-in-Err
 returns-in-Err g c =
     let bank = g.B.Bank.meanings c.args.bank.now in
     let few = g.met.B.Bank.few c.args.bank.now in
-    c.at-rest.ensures ∙ ap (λ d. d.held) (sym (get_or_past bank c.args.number absent (omega (arith, few, c.in-Err.ensures))))
+    c.at_rest.ensures ∙ ap (λ d. d.held) (sym (get_or_past bank c.args.number absent (omega (arith, few, c.in-Err.ensures))))

@@ -14,9 +14,9 @@ loop-number-preserved g c =
     let before = string_bytes c.args.log.now in
     let i = c.loop-number.number in
     let start = axis_count drives in
-    let past : start + (i - start) ≡ i = omega (arith, c.axis-count-number.ensures) in
-    let next : (i - start) + 1 ≡ (i + 1) - start = omega (arith, c.axis-count-number.ensures) in
-    c.in-ok-writeln.ensures.bytes
+    let past : start + (i - start) ≡ i = omega (arith, c.axis_count-number.ensures) in
+    let next : (i - start) + 1 ≡ (i + 1) - start = omega (arith, c.axis_count-number.ensures) in
+    c.in_ok-writeln.ensures.bytes
     ∙ ap (λ log. log ++ (codes "  " ++ (drive_text c.from.result c.held.result ++ (newline ∷ [])))) c.loop-number.invariant
     ∙ ap (λ n. (before ++ flat_map (spare_line drives) (range_with_len start (i - start))) ++ (codes "  " ++ (drive_text n c.held.result ++ (newline ∷ [])))) c.from.ensures
     ∙ ap (λ h. (before ++ flat_map (spare_line drives) (range_with_len start (i - start))) ++ (codes "  " ++ (drive_text i h ++ (newline ∷ [])))) c.held.ensures

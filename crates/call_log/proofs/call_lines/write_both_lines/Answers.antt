@@ -12,7 +12,7 @@ returns c =
     let one = text (Some c.args.first.delay) first in
     let other = text (Some c.args.second.delay) second in
     let before = string_bytes c.args.log.now in
-    let after = string_bytes c.write-call-3.new.log in
-    let apart : false ≡ same_lines first second = sym c.if-is-same.false ∙ c.is-same.ensures in
-    subst (λ same. Adds c.write-call-3.result (cond same (text None first) (one ++ other)) before after) apart
-    (adds_after c.write-call-3.result one other before _ after c.in-ok-write-call.ensures c.write-call-3.ensures)
+    let after = string_bytes c.write_call-3.new.log in
+    let apart : false ≡ same_lines first second = sym c.if-is_same.false ∙ c.is_same.ensures in
+    subst (λ same. Adds c.write_call-3.result (cond same (text None first) (one ++ other)) before after) apart
+    (adds_after c.write_call-3.result one other before _ after c.in_ok-write_call.ensures c.write_call-3.ensures)

@@ -7,28 +7,28 @@ use Rattle.calls.specs.Calls.{Asked, Requests, Cycles, request_in, cycle_in, cal
 use Rattle.calls.specs.Heard.{cycle_asks}
 use Rattle.calls.proofs.call.take_call.Goals as goal
 
-pub returns-in-err-request : goal.returns-in-err-request
+pub returns-in_err-request : goal.returns-in_err-request
 unfolding call_in
-returns-in-err-request c =
-    let p = err_from_is_err_and c.from-residual.result c.from-residual.ensures.1 in
+returns-in_err-request c =
+    let p = err_from_is_err_and c.from_residual.result c.from_residual.ensures.1 in
     rw (p.1, p.2, c.in-Request.is)
-    (stops {Y = Asked × Words} (request_in (words_left c.args.words.now)) (λ request rest. Ok (Requests request, rest)) c.in-err-request.field-0.0 (inr c.in-err-request.ensures))
+    (stops {Y = Asked × Words} (request_in (words_left c.args.words.now)) (λ request rest. Ok (Requests request, rest)) c.in_err-request.field-0.0 (inr c.in_err-request.ensures))
 
-pub returns-in-ok-request : goal.returns-in-ok-request
+pub returns-in_ok-request : goal.returns-in_ok-request
 unfolding call_in
-returns-in-ok-request c =
+returns-in_ok-request c =
     rw c.in-Request.is
-    (goes_on {Y = Asked × Words} (request_in (words_left c.args.words.now)) (λ request rest. Ok (Requests request, rest)) c.in-ok-request.request (words_left c.take-request.new.words) _ (inr c.in-ok-request.ensures) (inr refl))
+    (goes_on {Y = Asked × Words} (request_in (words_left c.args.words.now)) (λ request rest. Ok (Requests request, rest)) c.in_ok-request.request (words_left c.take_request.new.words) _ (inr c.in_ok-request.ensures) (inr refl))
 
-pub returns-in-err-cycle : goal.returns-in-err-cycle
+pub returns-in_err-cycle : goal.returns-in_err-cycle
 unfolding call_in
-returns-in-err-cycle c =
-    let p = err_from_is_err_and c.from-residual-in-err-cycle.result c.from-residual-in-err-cycle.ensures.1 in
+returns-in_err-cycle c =
+    let p = err_from_is_err_and c.from_residual-in_err-cycle.result c.from_residual-in_err-cycle.ensures.1 in
     rw (p.1, p.2, c.in-Cycle.is)
-    (stops {Y = Asked × Words} (cycle_in (words_left c.args.words.now)) (λ cycle rest. Ok (Cycles cycle, rest)) c.in-err-cycle.field-0.0 c.in-err-cycle.ensures)
+    (stops {Y = Asked × Words} (cycle_in (words_left c.args.words.now)) (λ cycle rest. Ok (Cycles cycle, rest)) c.in_err-cycle.field-0.0 c.in_err-cycle.ensures)
 
-pub returns-in-ok-cycle : goal.returns-in-ok-cycle
+pub returns-in_ok-cycle : goal.returns-in_ok-cycle
 unfolding call_in
-returns-in-ok-cycle c =
+returns-in_ok-cycle c =
     rw c.in-Cycle.is
-    (goes_on {Y = Asked × Words} (cycle_in (words_left c.args.words.now)) (λ cycle rest. Ok (Cycles cycle, rest)) (cycle_asks c.in-ok-cycle.cycle) (words_left c.take-cycle.new.words) _ c.in-ok-cycle.ensures (inr refl))
+    (goes_on {Y = Asked × Words} (cycle_in (words_left c.args.words.now)) (λ cycle rest. Ok (Cycles cycle, rest)) (cycle_asks c.in_ok-cycle.cycle) (words_left c.take_cycle.new.words) _ c.in_ok-cycle.ensures (inr refl))

@@ -7,28 +7,28 @@ use Rattle.calls.specs.Calls.{CabinetSaid, Builds, Asks, build_in, call_in, argu
 use Rattle.calls.specs.Heard.{call_asks}
 use Rattle.calls.proofs.directive.take_arguments.Goals as goal
 
-pub returns-in-err-build : goal.returns-in-err-build
+pub returns-in_err-build : goal.returns-in_err-build
 unfolding arguments_in
-returns-in-err-build c =
-    let p = err_from_is_err_and c.from-residual.result c.from-residual.ensures.1 in
+returns-in_err-build c =
+    let p = err_from_is_err_and c.from_residual.result c.from_residual.ensures.1 in
     rw (p.1, p.2, c.in-Cabinet.is)
-    (stops {Y = CabinetSaid × Words} (build_in (words_left c.args.words.now)) (λ build rest. Ok (Builds build, rest)) c.in-err-build.field-0.0 (inr c.in-err-build.ensures))
+    (stops {Y = CabinetSaid × Words} (build_in (words_left c.args.words.now)) (λ build rest. Ok (Builds build, rest)) c.in_err-build.field-0.0 (inr c.in_err-build.ensures))
 
-pub returns-in-ok-build : goal.returns-in-ok-build
+pub returns-in_ok-build : goal.returns-in_ok-build
 unfolding arguments_in
-returns-in-ok-build c =
+returns-in_ok-build c =
     rw c.in-Cabinet.is
-    (goes_on {Y = CabinetSaid × Words} (build_in (words_left c.args.words.now)) (λ build rest. Ok (Builds build, rest)) c.in-ok-build.build (words_left c.take-build.new.words) _ (inr c.in-ok-build.ensures) (inr refl))
+    (goes_on {Y = CabinetSaid × Words} (build_in (words_left c.args.words.now)) (λ build rest. Ok (Builds build, rest)) c.in_ok-build.build (words_left c.take_build.new.words) _ (inr c.in_ok-build.ensures) (inr refl))
 
-pub returns-in-err-call : goal.returns-in-err-call
+pub returns-in_err-call : goal.returns-in_err-call
 unfolding arguments_in
-returns-in-err-call c =
-    let p = err_from_is_err_and c.from-residual-in-err-call.result c.from-residual-in-err-call.ensures.1 in
+returns-in_err-call c =
+    let p = err_from_is_err_and c.from_residual-in_err-call.result c.from_residual-in_err-call.ensures.1 in
     rw (p.1, p.2, c.in-Call.is)
-    (stops {Y = CabinetSaid × Words} (call_in c.in-Call.name (words_left c.args.words.now)) (λ asked rest. Ok (Asks asked, rest)) c.in-err-call.field-0.0 c.in-err-call.ensures)
+    (stops {Y = CabinetSaid × Words} (call_in c.in-Call.name (words_left c.args.words.now)) (λ asked rest. Ok (Asks asked, rest)) c.in_err-call.field-0.0 c.in_err-call.ensures)
 
-pub returns-in-ok-call : goal.returns-in-ok-call
+pub returns-in_ok-call : goal.returns-in_ok-call
 unfolding arguments_in
-returns-in-ok-call c =
+returns-in_ok-call c =
     rw c.in-Call.is
-    (goes_on {Y = CabinetSaid × Words} (call_in c.in-Call.name (words_left c.args.words.now)) (λ asked rest. Ok (Asks asked, rest)) (call_asks c.in-ok-call.call) (words_left c.take-call.new.words) _ c.in-ok-call.ensures (inr refl))
+    (goes_on {Y = CabinetSaid × Words} (call_in c.in-Call.name (words_left c.args.words.now)) (λ asked rest. Ok (Asks asked, rest)) (call_asks c.in_ok-call.call) (words_left c.take_call.new.words) _ c.in_ok-call.ensures (inr refl))

@@ -7,17 +7,17 @@ use Rattle.calls.proofs.number.take_u16.Goals as goal
 
 pub returns : goal.returns
 returns c =
-    read_found (unsigned_of 65535) (words_left c.args.words.now) c.in-ok-word.word.now (words_left c.take-word.new.words)
-    (Ok c.in-ok-number.field-0) c.in-ok-word.ensures c.in-ok-number.ensures
+    read_found (unsigned_of 65535) (words_left c.args.words.now) c.in_ok-word.word.now (words_left c.take_word.new.words)
+    (Ok c.in_ok-number.field-0) c.in_ok-word.ensures c.in_ok-number.ensures
 
-pub returns-in-err-word : goal.returns-in-err-word
-returns-in-err-word c =
-    let p = err_from_is_err_and c.from-residual.result c.from-residual.ensures.1 in
-    rw (p.1, p.2) (none_found (unsigned_of 65535) (words_left c.args.words.now) c.in-err-word.field-0.0 c.in-err-word.ensures)
+pub returns-in_err-word : goal.returns-in_err-word
+returns-in_err-word c =
+    let p = err_from_is_err_and c.from_residual.result c.from_residual.ensures.1 in
+    rw (p.1, p.2) (none_found (unsigned_of 65535) (words_left c.args.words.now) c.in_err-word.field-0.0 c.in_err-word.ensures)
 
-pub returns-in-err-number : goal.returns-in-err-number
-returns-in-err-number c =
-    let p = err_from_is_err_and c.from-residual-in-err-number.result c.from-residual-in-err-number.ensures.1 in
+pub returns-in_err-number : goal.returns-in_err-number
+returns-in_err-number c =
+    let p = err_from_is_err_and c.from_residual-in_err-number.result c.from_residual-in_err-number.ensures.1 in
     rw (p.1, p.2)
-    (read_found (unsigned_of 65535) (words_left c.args.words.now) c.in-ok-word.word.now (words_left c.take-word.new.words)
-    (Err c.in-err-number.field-0.0) c.in-ok-word.ensures c.in-err-number.ensures)
+    (read_found (unsigned_of 65535) (words_left c.args.words.now) c.in_ok-word.word.now (words_left c.take_word.new.words)
+    (Err c.in_err-number.field-0.0) c.in_ok-word.ensures c.in_err-number.ensures)

@@ -9,11 +9,11 @@ returns-in-Some c =
     let bits = c.args.bits in
     let found : c.in-Some.code.now ≡ get_or inverter_codes (count_trailing_zeros 16 bits) 0 = search rules in
     let named = found ∙ named_at inverter_codes bits in
-    record { value = named; lowest-set-bit-names = λ k set_here clear-below. named ∙ lowest_names inverter_codes bits k set_here clear-below }
+    record { value = named; lowest_set_bit_names = λ k set_here clear-below. named ∙ lowest_names inverter_codes bits k set_here clear-below }
 
 pub returns-in-None : goal.returns-in-None
 returns-in-None c =
     let bits = c.args.bits in
     let found : 0 ≡ get_or inverter_codes (count_trailing_zeros 16 bits) 0 = search rules in
     let named = found ∙ named_at inverter_codes bits in
-    record { value = named; lowest-set-bit-names = λ k set_here clear-below. named ∙ lowest_names inverter_codes bits k set_here clear-below }
+    record { value = named; lowest_set_bit_names = λ k set_here clear-below. named ∙ lowest_names inverter_codes bits k set_here clear-below }

@@ -5,9 +5,9 @@ use Rattle.replay.proofs.stage.call_one.Goals as goal
 pub returns : goal.returns
 returns c =
     record {
-      lines = c.in-ok-lines.lines;
-      call_shown = c.in-ok-lines.ensures;
+      lines = c.in_ok-lines.lines;
+      call_shown = c.in_ok-lines.ensures;
       log_shows =
-          c.in-ok-write-lines.ensures
-          ∙ ap (λ (name : List ℕ). string_bytes c.args.log.now ++ call_text c.args.number name None c.in-ok-lines.lines) c.name-of.ensures;
+          c.in_ok-write_lines.ensures
+          ∙ ap (λ (name : List ℕ). string_bytes c.args.log.now ++ call_text c.args.number name None c.in_ok-lines.lines) c.name_of.ensures;
     }

@@ -8,35 +8,35 @@ use Rattle.scenario.specs.Makes.{make_in}
 use Rattle.grammar.proofs.Memory.{goes_on, stops}
 use Rattle.scenario.proofs.directive.take_arguments.Goals as goal
 
-pub returns-in-err-drive : goal.returns-in-err-drive
+pub returns-in_err-drive : goal.returns-in_err-drive
 unfolding arguments_in
-returns-in-err-drive c =
-    let p = err_from_is_err_and c.from-residual.result c.from-residual.ensures.1 in
-    rw (p.1, p.2, c.in-Drive.is) (stops {Y = Said × Words} (make_in (words_left c.args.words.now)) (λ drive rest. Ok (Declares drive, rest)) c.in-err-drive.field-0.0 c.in-err-drive.ensures)
+returns-in_err-drive c =
+    let p = err_from_is_err_and c.from_residual.result c.from_residual.ensures.1 in
+    rw (p.1, p.2, c.in-Drive.is) (stops {Y = Said × Words} (make_in (words_left c.args.words.now)) (λ drive rest. Ok (Declares drive, rest)) c.in_err-drive.field-0.0 c.in_err-drive.ensures)
 
-pub returns-in-ok-drive : goal.returns-in-ok-drive
+pub returns-in_ok-drive : goal.returns-in_ok-drive
 unfolding arguments_in
-returns-in-ok-drive c =
+returns-in_ok-drive c =
     rw c.in-Drive.is
-    (goes_on {Y = Said × Words} (make_in (words_left c.args.words.now)) (λ drive rest. Ok (Declares drive, rest)) (stack_is c.in-ok-drive.drive) (words_left c.take-drive.new.words) _ c.in-ok-drive.ensures (inr refl))
+    (goes_on {Y = Said × Words} (make_in (words_left c.args.words.now)) (λ drive rest. Ok (Declares drive, rest)) (stack_is c.in_ok-drive.drive) (words_left c.take_drive.new.words) _ c.in_ok-drive.ensures (inr refl))
 
-pub returns-in-err-number : goal.returns-in-err-number
+pub returns-in_err-number : goal.returns-in_err-number
 unfolding arguments_in
-returns-in-err-number c =
-    let p = err_from_is_err_and c.from-residual-in-err-number.result c.from-residual-in-err-number.ensures.1 in
-    rw (p.1, p.2, c.in-Operation.is) (stops {Y = Said × Words} (drive_in (words_left c.args.words.now)) (λ i r. and_then (operation_in c.in-Operation.verb r) (λ operation rest. Ok (Operates i operation, rest))) c.in-err-number.field-0.0 (inr c.in-err-number.ensures))
+returns-in_err-number c =
+    let p = err_from_is_err_and c.from_residual-in_err-number.result c.from_residual-in_err-number.ensures.1 in
+    rw (p.1, p.2, c.in-Operation.is) (stops {Y = Said × Words} (drive_in (words_left c.args.words.now)) (λ i r. and_then (operation_in c.in-Operation.verb r) (λ operation rest. Ok (Operates i operation, rest))) c.in_err-number.field-0.0 (inr c.in_err-number.ensures))
 
-pub returns-in-err-operation : goal.returns-in-err-operation
+pub returns-in_err-operation : goal.returns-in_err-operation
 unfolding arguments_in
-returns-in-err-operation c =
-    let p = err_from_is_err_and c.from-residual-in-err-operation.result c.from-residual-in-err-operation.ensures.1 in
+returns-in_err-operation c =
+    let p = err_from_is_err_and c.from_residual-in_err-operation.result c.from_residual-in_err-operation.ensures.1 in
     rw (p.1, p.2, c.in-Operation.is)
-    (goes_on {Y = Said × Words} (drive_in (words_left c.args.words.now)) (λ i r. and_then (operation_in c.in-Operation.verb r) (λ operation rest. Ok (Operates i operation, rest))) c.in-ok-number.number (words_left c.take-number.new.words) _ (inr c.in-ok-number.ensures)
-    (stops {Y = Said × Words} (operation_in c.in-Operation.verb (words_left c.take-number.new.words)) (λ operation rest. Ok (Operates c.in-ok-number.number operation, rest)) c.in-err-operation.field-0.0 c.in-err-operation.ensures))
+    (goes_on {Y = Said × Words} (drive_in (words_left c.args.words.now)) (λ i r. and_then (operation_in c.in-Operation.verb r) (λ operation rest. Ok (Operates i operation, rest))) c.in_ok-number.number (words_left c.take_number.new.words) _ (inr c.in_ok-number.ensures)
+    (stops {Y = Said × Words} (operation_in c.in-Operation.verb (words_left c.take_number.new.words)) (λ operation rest. Ok (Operates c.in_ok-number.number operation, rest)) c.in_err-operation.field-0.0 c.in_err-operation.ensures))
 
-pub returns-in-ok-operation : goal.returns-in-ok-operation
+pub returns-in_ok-operation : goal.returns-in_ok-operation
 unfolding arguments_in
-returns-in-ok-operation c =
+returns-in_ok-operation c =
     rw c.in-Operation.is
-    (goes_on {Y = Said × Words} (drive_in (words_left c.args.words.now)) (λ i r. and_then (operation_in c.in-Operation.verb r) (λ operation rest. Ok (Operates i operation, rest))) c.in-ok-number.number (words_left c.take-number.new.words) _ (inr c.in-ok-number.ensures)
-    (goes_on {Y = Said × Words} (operation_in c.in-Operation.verb (words_left c.take-number.new.words)) (λ operation rest. Ok (Operates c.in-ok-number.number operation, rest)) c.in-ok-operation.operation (words_left c.take-operation.new.words) _ c.in-ok-operation.ensures (inr refl)))
+    (goes_on {Y = Said × Words} (drive_in (words_left c.args.words.now)) (λ i r. and_then (operation_in c.in-Operation.verb r) (λ operation rest. Ok (Operates i operation, rest))) c.in_ok-number.number (words_left c.take_number.new.words) _ (inr c.in_ok-number.ensures)
+    (goes_on {Y = Said × Words} (operation_in c.in-Operation.verb (words_left c.take_number.new.words)) (λ operation rest. Ok (Operates c.in_ok-number.number operation, rest)) c.in_ok-operation.operation (words_left c.take_operation.new.words) _ c.in_ok-operation.ensures (inr refl)))

@@ -20,26 +20,26 @@ pub returns-in-Hold : goal.returns-in-Hold
 unfolding operation_in
 returns-in-Hold c = rw c.in-Hold.is (inr refl)
 
-pub returns-in-err-record : goal.returns-in-err-record
+pub returns-in_err-record : goal.returns-in_err-record
 unfolding operation_in
-returns-in-err-record c =
-    let p = err_from_is_err_and c.from-residual.result c.from-residual.ensures.1 in
-    rw (p.1, p.2, c.in-Sample.is) (stops {Y = Operation × Words} (record_in (words_left c.args.words.now)) (λ x rest. Ok (Sample x, rest)) c.in-err-record.field-0.0 c.in-err-record.ensures)
+returns-in_err-record c =
+    let p = err_from_is_err_and c.from_residual.result c.from_residual.ensures.1 in
+    rw (p.1, p.2, c.in-Sample.is) (stops {Y = Operation × Words} (record_in (words_left c.args.words.now)) (λ x rest. Ok (Sample x, rest)) c.in_err-record.field-0.0 c.in_err-record.ensures)
 
-pub returns-in-ok-record : goal.returns-in-ok-record
+pub returns-in_ok-record : goal.returns-in_ok-record
 unfolding operation_in
-returns-in-ok-record c =
+returns-in_ok-record c =
     rw c.in-Sample.is
-    (goes_on {Y = Operation × Words} (record_in (words_left c.args.words.now)) (λ x rest. Ok (Sample x, rest)) c.in-ok-record.record (words_left c.take-record.new.words) _ c.in-ok-record.ensures (inr refl))
+    (goes_on {Y = Operation × Words} (record_in (words_left c.args.words.now)) (λ x rest. Ok (Sample x, rest)) c.in_ok-record.record (words_left c.take_record.new.words) _ c.in_ok-record.ensures (inr refl))
 
-pub returns-in-err-target : goal.returns-in-err-target
+pub returns-in_err-target : goal.returns-in_err-target
 unfolding operation_in
-returns-in-err-target c =
-    let p = err_from_is_err_and c.from-residual-in-err-target.result c.from-residual-in-err-target.ensures.1 in
-    rw (p.1, p.2, c.in-Take.is) (stops {Y = Operation × Words} (target_in (words_left c.args.words.now)) (λ x rest. Ok (Take x, rest)) c.in-err-target.field-0.0 (inr c.in-err-target.ensures))
+returns-in_err-target c =
+    let p = err_from_is_err_and c.from_residual-in_err-target.result c.from_residual-in_err-target.ensures.1 in
+    rw (p.1, p.2, c.in-Take.is) (stops {Y = Operation × Words} (target_in (words_left c.args.words.now)) (λ x rest. Ok (Take x, rest)) c.in_err-target.field-0.0 (inr c.in_err-target.ensures))
 
-pub returns-in-ok-target : goal.returns-in-ok-target
+pub returns-in_ok-target : goal.returns-in_ok-target
 unfolding operation_in
-returns-in-ok-target c =
+returns-in_ok-target c =
     rw c.in-Take.is
-    (goes_on {Y = Operation × Words} (target_in (words_left c.args.words.now)) (λ x rest. Ok (Take x, rest)) c.in-ok-target.target (words_left c.take-target.new.words) _ (inr c.in-ok-target.ensures) (inr refl))
+    (goes_on {Y = Operation × Words} (target_in (words_left c.args.words.now)) (λ x rest. Ok (Take x, rest)) c.in_ok-target.target (words_left c.take_target.new.words) _ (inr c.in_ok-target.ensures) (inr refl))

@@ -7,10 +7,10 @@ pub returns : goal.returns
 returns g c =
     let done = cycle_steps
     c.args.record.now c.args.self.now (g.B.Bank.meanings c.args.bank.now) c.args.number
-    c.args.line c.held-at-trouble.result.trouble c.make-move-entered.result c.make-move-entered.new.self
-    (g.B.Bank.meanings c.sample-at.new.self) (g.B.Bank.meanings c.enter.new.bank)
-    c.sample-at.ensures (ap (λ (h : Held). h.trouble) c.held-at-trouble.ensures)
-    c.make-move-entered.ensures.decides c.make-move-entered.ensures.moves c.enter.ensures
-    c.is-enabled-was-enabled.result c.heed.new.self (g.B.Bank.meanings c.heed.new.bank)
-    c.is-enabled-was-enabled.ensures c.heed.ensures.noted c.heed.ensures.driven in
+    c.args.line c.held_at-trouble.result.trouble c.make_move-entered.result c.make_move-entered.new.self
+    (g.B.Bank.meanings c.sample_at.new.self) (g.B.Bank.meanings c.enter.new.bank)
+    c.sample_at.ensures (ap (λ (h : Held). h.trouble) c.held_at-trouble.ensures)
+    c.make_move-entered.ensures.decides c.make_move-entered.ensures.moves c.enter.ensures
+    c.is_enabled-was_enabled.result c.heed.new.self (g.B.Bank.meanings c.heed.new.bank)
+    c.is_enabled-was_enabled.ensures c.heed.ensures.noted c.heed.ensures.driven in
     record { axis_steps = done.0; drive_steps = done.1 }

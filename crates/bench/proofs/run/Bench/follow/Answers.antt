@@ -6,7 +6,7 @@ use Rattle.bench.proofs.run.Bench.follow.Goals as goal
 pub returns-in-Ok : goal.returns-in-Ok
 returns-in-Ok c =
     let said = says c.in-Some.directive in
-    let shows = c.in-ok-shown.ensures in
+    let shows = c.in_ok-shown.ensures in
     record {
       said = Some said;
       line_says_it = search rules;

@@ -11,13 +11,13 @@ pub loop-number-preserved : goal.loop-number-preserved
 loop-number-preserved g c =
     let before : Standing = standing (g.B.Bank.meanings c.args.self.now.bank) c.args.self.now in
     let present : Standing = standing (g.B.Bank.meanings c.loop-number.self.bank) c.loop-number.self in
-    let after : Standing = standing (g.B.Bank.meanings c.begin-stay-of.new.self.bank) c.begin-stay-of.new.self in
+    let after : Standing = standing (g.B.Bank.meanings c.begin_stay_of.new.self.bank) c.begin_stay_of.new.self in
     let i = c.loop-number.number in
     let a-drive : i < length before.drives = search rules in
-    one_more (λ i. StayBegins) before present after i c.loop-number.invariant a-drive c.begin-stay-of.ensures
+    one_more (λ i. StayBegins) before present after i c.loop-number.invariant a-drive c.begin_stay_of.ensures
 
 pub returns : goal.returns
 returns g c =
     let before : Standing = standing (g.B.Bank.meanings c.args.self.now.bank) c.args.self.now in
     let after : Standing = standing (g.B.Bank.meanings c.loop-number.self.bank) c.loop-number.self in
-    all_stepped c.loop-number.number (λ i. StayBegins) before after (omega (arith, c.axis-count-number-end.ensures)) c.loop-number.invariant
+    all_stepped c.loop-number.number (λ i. StayBegins) before after (omega (arith, c.axis_count-number-end.ensures)) c.loop-number.invariant

@@ -6,7 +6,7 @@ pub returns : goal.returns
 returns g c =
     record {
       answers = c.checked-answer.ensures;
-      al-status = c.status.ensures;
+      al_status = c.status.ensures;
       stands = elim c.match-answer.branch [ in-Accepted w ↦ search rules | in-RecordsLength w ↦ search rules ];
-      image-written-whole = elim c.match-answer.branch [ in-Accepted w ↦ search rules | in-RecordsLength w ↦ search rules ];
+      image_written_whole = elim c.match-answer.branch [ in-Accepted w ↦ search rules | in-RecordsLength w ↦ search rules ];
     }

@@ -11,13 +11,13 @@ pub loop-number-preserved : goal.loop-number-preserved
 loop-number-preserved g c =
     let before : Standing = standing (g.B.Bank.meanings c.args.self.now.bank) c.args.self.now in
     let present : Standing = standing (g.B.Bank.meanings c.loop-number.self.bank) c.loop-number.self in
-    let after : Standing = standing (g.B.Bank.meanings c.lose-line-of.new.self.bank) c.lose-line-of.new.self in
+    let after : Standing = standing (g.B.Bank.meanings c.lose_line_of.new.self.bank) c.lose_line_of.new.self in
     let i = c.loop-number.number in
     let a-drive : i < length before.drives = search rules in
-    one_more (λ i. LineLost) before present after i c.loop-number.invariant a-drive c.lose-line-of.ensures
+    one_more (λ i. LineLost) before present after i c.loop-number.invariant a-drive c.lose_line_of.ensures
 
 pub returns : goal.returns
 returns g c =
     let before : Standing = standing (g.B.Bank.meanings c.args.self.now.bank) c.args.self.now in
     let after : Standing = standing (g.B.Bank.meanings c.loop-number.self.bank) c.loop-number.self in
-    all_stepped c.loop-number.number (λ i. LineLost) before after (omega (arith, c.axis-count-number-end.ensures)) c.loop-number.invariant
+    all_stepped c.loop-number.number (λ i. LineLost) before after (omega (arith, c.axis_count-number-end.ensures)) c.loop-number.invariant

@@ -27,28 +27,28 @@ loop-number-preserved g c =
     let i : ℕ = c.loop-number.number in
     let n : ℕ = axis_count before.drives in
     let rest : List ℕ = c.loop-number.reader.rest.now in
-    let below : i < n = omega (arith, c.loop-number-test.true, c.axis-count-number-end.ensures) in
+    let below : i < n = omega (arith, c.loop-number-test.true, c.axis_count-number-end.ensures) in
     let a-drive : i < length before.drives = omega (arith, below) in
     let steps = c.loop-number.invariant.0 in
     let here = c.loop-number.invariant.1 in
     let in_table : i < length present.axes = c.step.ensures.in_table in
     let within : i < length before.axes = an_axis brings before present after i steps a-drive in_table in
     let same : axis_at present.axes i ≡ axis_at before.axes i = axis_reads brings before present after i steps a-drive in_table in
-    let line : c.line-for-line.result ≡ line_for heard frame before.axes i =
-    c.line-for-line.ensures.brings
+    let line : c.line_for-line.result ≡ line_for heard frame before.axes i =
+    c.line_for-line.ensures.brings
     ∙ ap (λ k. line_read heard (axis_at present.axes k).layout rest) c.from-at.ensures
     ∙ ap (λ (axis : Axis). line_read heard axis.layout rest) same
-    ∙ read_line frame before.axes i n below within heard rest c.requires.whole-frame here in
-    let left : c.line-for-line.new.reader.rest.now ≡ rest_read heard (axis_at before.axes i).layout rest =
-    c.line-for-line.ensures.steps
+    ∙ read_line frame before.axes i n below within heard rest c.requires.whole_frame here in
+    let left : c.line_for-line.new.reader.rest.now ≡ rest_read heard (axis_at before.axes i).layout rest =
+    c.line_for-line.ensures.steps
     ∙ ap (λ k. rest_read heard (axis_at present.axes k).layout rest) c.from-at.ensures
     ∙ ap (λ (axis : Axis). rest_read heard axis.layout rest) same in
-    let bytes : get_or c.as-chunks.result.0.now c.from-at.result [] ≡ record_of records i =
-    ap (λ k. get_or c.as-chunks.result.0.now k []) c.from-at.ensures
-    ∙ ap (λ (each : List (List ℕ)). get_or each i []) c.as-chunks.ensures.front
-    ∙ chunk_at 12 (length records / 12) i records [] (omega (arith, c.requires.all-records, below)) in
-    let brought : Cycles c.line-for-line.result (get_or c.as-chunks.result.0.now c.from-at.result []) ≡ brings i =
-    ap (λ (l : Line). Cycles l (get_or c.as-chunks.result.0.now c.from-at.result [])) line ∙ ap (Cycles (line_for heard frame before.axes i)) bytes in (
+    let bytes : get_or c.as_chunks.result.0.now c.from-at.result [] ≡ record_of records i =
+    ap (λ k. get_or c.as_chunks.result.0.now k []) c.from-at.ensures
+    ∙ ap (λ (each : List (List ℕ)). get_or each i []) c.as_chunks.ensures.front
+    ∙ chunk_at 12 (length records / 12) i records [] (omega (arith, c.requires.all_records, below)) in
+    let brought : Cycles c.line_for-line.result (get_or c.as_chunks.result.0.now c.from-at.result []) ≡ brings i =
+    ap (λ (l : Line). Cycles l (get_or c.as_chunks.result.0.now c.from-at.result [])) line ∙ ap (Cycles (line_for heard frame before.axes i)) bytes in (
       one_more brings before present after i steps a-drive (subst (λ (event : Event). OneStep i event present after) brought c.step.ensures),
-      subst (λ (r : List ℕ). ReaderAt heard frame before.axes (i + 1) r) (sym left) (read_rest frame before.axes i n below within heard rest c.requires.whole-frame here),
+      subst (λ (r : List ℕ). ReaderAt heard frame before.axes (i + 1) r) (sym left) (read_rest frame before.axes i n below within heard rest c.requires.whole_frame here),
     )

@@ -10,8 +10,8 @@ loop-axis-init g c =
 pub loop-axis-preserved : goal.loop-axis-preserved
 loop-axis-preserved g c =
     row_written (standing (g.B.Bank.meanings c.args.self.now.bank) c.args.self.now) c.args.image.now
-    c.loop-axis.axis c.from-at.result c.loop-axis.image c.copy-from-slice.new.self
-    c.from-at.ensures c.loop-axis.invariant (c.copy-from-slice.ensures.after ∙ c.row-row.ensures)
+    c.loop-axis.axis c.from-at.result c.loop-axis.image c.copy_from_slice.new.self
+    c.from-at.ensures c.loop-axis.invariant (c.copy_from_slice.ensures.after ∙ c.row-row.ensures)
 
 pub returns : goal.returns
 returns g c =

@@ -12,11 +12,11 @@ loop-byte-preserved g c plain =
     let bytes = c.args.self.now.0.now in
     let i = c.loop-byte.byte-index in
     let so_far = c.loop-byte.invariant plain in
-    let more = c.write.ensures.writes so_far.plain (ap is_ok c.in-ok-write.was) in
-    let high = c.hex-digit-high.ensures ∙ ap (λ n. hex_digit (n / 16 % 16) ∷ []) c.from.ensures in
-    let low = c.hex-digit-low.ensures ∙ ap (λ n. hex_digit (n % 16) ∷ []) c.from-in-loop-byte.ensures in
-    let digits : c.hex-digit-high.result.now ++ c.hex-digit-low.result.now ≡ byte_text (get_or bytes i 0) =
-    ap (λ text. text ++ c.hex-digit-low.result.now) high ∙ ap (λ text. hex_digit (get_or bytes i 0 / 16 % 16) ∷ text) low in
+    let more = c.write.ensures.writes so_far.plain (ap is_ok c.in_ok-write.was) in
+    let high = c.hex_digit-high.ensures ∙ ap (λ n. hex_digit (n / 16 % 16) ∷ []) c.from.ensures in
+    let low = c.hex_digit-low.ensures ∙ ap (λ n. hex_digit (n % 16) ∷ []) c.from-in-loop-byte.ensures in
+    let digits : c.hex_digit-high.result.now ++ c.hex_digit-low.result.now ≡ byte_text (get_or bytes i 0) =
+    ap (λ text. text ++ c.hex_digit-low.result.now) high ∙ ap (λ text. hex_digit (get_or bytes i 0 / 16 % 16) ∷ text) low in
     has_written_of_eq took _ _ _ _
     (ap (λ text. bytes_text (take i bytes) ++ text) digits ∙ joined-take_more byte_text bytes i 0 c.loop-byte-test.true)
     (has_written_append took _ _ _ _ _ so_far more)

@@ -4,8 +4,8 @@ use Rattle.drives.specs.Numbers.{brought_into}
 use Rattle.cylinders.proofs.Products.{product_fits}
 use Rattle.cylinders.proofs.scale.Scale.position.Goals as goal
 
-pub overflow-mul-result : goal.overflow-mul-result
-overflow-mul-result c =
+pub overflow_mul-result : goal.overflow_mul-result
+overflow_mul-result c =
     let k = c.k-k.result in
     let above = to_z w32 (of_z w32 (to_z w32 (of_z w32 c.from.result) -ℤ to_z w32 (of_z w32 c.from-2.result))) in
     let few : nat_abs above ≤ 17000 = omega (arith, ints) in
@@ -18,4 +18,4 @@ returns c =
     let above = to_z w32 (of_z w32 (to_z w32 (of_z w32 c.from.result) -ℤ to_z w32 (of_z w32 c.from-2.result))) in
     let above-is : above ≡ pos (brought_into 3600 21000 c.args.current) -ℤ pos 4000 = omega (arith, ints) in
     let k-is : to_z w32 k ≡ pos k = omega (arith, ints) in
-    to_z-of_z w32 (above *ℤ to_z w32 k) (overflow-mul-result c) ∙ ap₂ ◌*ℤ◌ above-is (k-is ∙ ap pos c.k-k.ensures)
+    to_z-of_z w32 (above *ℤ to_z w32 k) (overflow_mul-result c) ∙ ap₂ ◌*ℤ◌ above-is (k-is ∙ ap pos c.k-k.ensures)

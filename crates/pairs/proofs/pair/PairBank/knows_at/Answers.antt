@@ -6,9 +6,9 @@ use Rattle.pairs.proofs.pair.PairBank.knows_at.Goals as goal
 pub returns-in-First : goal.returns-in-First
 returns-in-First g c =
     let fits : SFits w8 c.args.mode = search rules in
-    (simp to_z-of_z at c.knows-at.ensures) ∙ ap (known_by c.args.mode) (sym c.in-First.ensures.there)
+    (simp to_z-of_z at c.knows_at.ensures) ∙ ap (known_by c.args.mode) (sym c.in-First.ensures.there)
 
 pub returns-in-Second : goal.returns-in-Second
 returns-in-Second g c =
     let fits : SFits w8 c.args.mode = search rules in
-    (simp to_z-of_z at c.knows-at-in-Second.ensures) ∙ ap (known_by c.args.mode) (sym c.in-Second.ensures.there)
+    (simp to_z-of_z at c.knows_at-in-Second.ensures) ∙ ap (known_by c.args.mode) (sym c.in-Second.ensures.there)

@@ -5,13 +5,13 @@ use Rattle.pairs.proofs.pair.PairBank.take_at.Goals as goal
 pub returns-in-First : goal.returns-in-First
 returns-in-First g c =
     record {
-      carries = c.in-First.ensures.changes (taken c.args.target) _ c.take-at.ensures.carries;
-      answers = c.take-at.ensures.answers ∙ ap (take_answer c.args.target) (sym c.in-First.ensures.there);
+      carries = c.in-First.ensures.changes (taken c.args.target) _ c.take_at.ensures.carries;
+      answers = c.take_at.ensures.answers ∙ ap (take_answer c.args.target) (sym c.in-First.ensures.there);
     }
 
 pub returns-in-Second : goal.returns-in-Second
 returns-in-Second g c =
     record {
-      carries = c.in-Second.ensures.changes (taken c.args.target) _ c.take-at-in-Second.ensures.carries;
-      answers = c.take-at-in-Second.ensures.answers ∙ ap (take_answer c.args.target) (sym c.in-Second.ensures.there);
+      carries = c.in-Second.ensures.changes (taken c.args.target) _ c.take_at-in-Second.ensures.carries;
+      answers = c.take_at-in-Second.ensures.answers ∙ ap (take_answer c.args.target) (sym c.in-Second.ensures.there);
     }

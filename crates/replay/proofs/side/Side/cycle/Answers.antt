@@ -9,13 +9,13 @@ use Rattle.replay.proofs.side.Side.cycle.Goals as goal
 
 pub returns : goal.returns
 returns c =
-    let image : List ℕ = c.as-mut-slice.result.now in
-    let written : List ℕ = c.carry-out-cycled.new.image in
-    let cycled : Cycled = c.carry-out-cycled.result in
+    let image : List ℕ = c.as_mut_slice.result.now in
+    let written : List ℕ = c.carry_out-cycled.new.image in
+    let cycled : Cycled = c.carry_out-cycled.result in
     let long : length image ≡ image_length c.args.cycle.now.image (side_stands c.args.self.now) = search rules in
-    let same : c.as-slice.result.now ≡ written =
-    c.as-slice.ensures.value ∙ take_at written _ c.in-ok-image.image.len (c.carry-out-cycled.auto.image ∙ c.as-mut-slice.ensures.len) in
-    let text : string_bytes c.in-ok-format.field-0 ≡ cycle_text cycled c.as-slice.result.now = search rules in
+    let same : c.as_slice.result.now ≡ written =
+    c.as_slice.ensures.value ∙ take_at written _ c.in_ok-image.image.len (c.carry_out-cycled.auto.image ∙ c.as_mut_slice.ensures.len) in
+    let text : string_bytes c.in_ok-format.field-0 ≡ cycle_text cycled c.as_slice.result.now = search rules in
     cycle_shown c.args.line (cycle_asks c.args.cycle.now) (length image) image written cycled
-    c.args.self.now c.carry-out-cycled.new.self (string_bytes c.in-ok-format.field-0) long c.carry-out-cycled.ensures
+    c.args.self.now c.carry_out-cycled.new.self (string_bytes c.in_ok-format.field-0) long c.carry_out-cycled.ensures
     (text ∙ ap (cycle_text cycled) same)

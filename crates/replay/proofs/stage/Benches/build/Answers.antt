@@ -6,31 +6,31 @@ use Rattle.bench.specs.Benches.{bank_is}
 use Rattle.replay.specs.Sides.{SideBuilt}
 use Rattle.replay.proofs.stage.Benches.build.Goals as goal
 
-pub returns-in-default : goal.returns-in-default
-returns-in-default c =
-    let one = c.in-ok-one.one in
-    let lines = c.in-ok-one.lines in
+pub returns-in_default : goal.returns-in_default
+returns-in_default c =
+    let one = c.in_ok-one.one in
+    let lines = c.in_ok-one.lines in
     record {
       one_delay = search rules;
       lines = lines;
-      side_built = subst (λ (bank : Row (Stack AnyMake)). SideBuilt c.args.build.number c.args.build.delay (bank_is bank) one lines) c.into-bank.ensures c.in-ok-one.ensures;
-      log_shows = c.in-ok-write-lines.ensures;
+      side_built = subst (λ (bank : Row (Stack AnyMake)). SideBuilt c.args.build.number c.args.build.delay (bank_is bank) one lines) c.into_bank.ensures c.in_ok-one.ensures;
+      log_shows = c.in_ok-write_lines.ensures;
     }
 
 pub returns : goal.returns
 returns c =
-    let one = c.in-ok-one.one in
-    let lines = c.in-ok-one.lines in
+    let one = c.in_ok-one.one in
+    let lines = c.in_ok-one.lines in
     let delay = c.in-Some.delay in
-    let other = c.in-ok-other.other in
-    let others = c.in-ok-other.other-lines in
+    let other = c.in_ok-other.other in
+    let others = c.in_ok-other.other_lines in
     record {
       delay = delay;
       two_delays = c.in-Some.is;
       one = lines;
       other = others;
-      first_built = subst (λ (bank : Row (Stack AnyMake)). SideBuilt c.args.build.number c.args.build.delay (bank_is bank) one lines) c.into-bank.ensures c.in-ok-one.ensures;
-      second_built = subst (λ (bank : Row (Stack AnyMake)). SideBuilt c.args.build.number delay (bank_is bank) other others) c.into-bank-2.ensures c.in-ok-other.ensures;
+      first_built = subst (λ (bank : Row (Stack AnyMake)). SideBuilt c.args.build.number c.args.build.delay (bank_is bank) one lines) c.into_bank.ensures c.in_ok-one.ensures;
+      second_built = subst (λ (bank : Row (Stack AnyMake)). SideBuilt c.args.build.number delay (bank_is bank) other others) c.into_bank-2.ensures c.in_ok-other.ensures;
       not_parted = refl;
-      log_shows = c.in-ok-show.ensures;
+      log_shows = c.in_ok-show.ensures;
     }

@@ -9,17 +9,17 @@ use Rattle.replay.proofs.stage.Pair.call.Goals as goal
 pub returns : goal.returns
 returns c =
     let asked = call_asks c.args.call.now in
-    let one = c.in-ok-first.first in
-    let other = c.in-ok-second.second in
-    let noted = c.note-parting.ensures in
-    let after : Pair = c.note-parting.new.self in
+    let one = c.in_ok-first.first in
+    let other = c.in_ok-second.second in
+    let noted = c.note_parting.ensures in
+    let after : Pair = c.note_parting.new.self in
     record {
       one = one;
       other = other;
-      first_shown = subst (λ (side : Side). CallShown c.args.number asked c.args.self.now.first side one) (sym (ap (λ (p : Pair). p.first) noted)) c.in-ok-first.ensures;
-      second_shown = subst (λ (side : Side). CallShown c.args.number asked c.args.self.now.second side other) (sym (ap (λ (p : Pair). p.second) noted)) c.in-ok-second.ensures;
+      first_shown = subst (λ (side : Side). CallShown c.args.number asked c.args.self.now.first side one) (sym (ap (λ (p : Pair). p.first) noted)) c.in_ok-first.ensures;
+      second_shown = subst (λ (side : Side). CallShown c.args.number asked c.args.self.now.second side other) (sym (ap (λ (p : Pair). p.second) noted)) c.in_ok-second.ensures;
       parted_noted = ap (λ (p : Pair). p.parted) noted;
       log_shows =
-          c.in-ok-show.ensures
-          ∙ ap (λ (name : List ℕ). string_bytes c.args.log.now ++ both_text c.args.number name (delay_of after.first) one (delay_of after.second) other) c.name-of.ensures;
+          c.in_ok-show.ensures
+          ∙ ap (λ (name : List ℕ). string_bytes c.args.log.now ++ both_text c.args.number name (delay_of after.first) one (delay_of after.second) other) c.name_of.ensures;
     }

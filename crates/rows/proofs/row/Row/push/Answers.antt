@@ -6,6 +6,6 @@ pub returns : goal.returns
 returns g c =
     record {
       appended = c.push.ensures.items;
-      joins-the-bank = row_pushed g.D.Drive.meaning (vec_items c.args.self.now.drives) _ c.args.drive _ c.push.ensures.items;
-      handed-back = c.push.ensures.value-returned;
+      joins_the_bank = row_pushed g.D.Drive.meaning (vec_items c.args.self.now.drives) _ c.args.drive _ c.push.ensures.items;
+      handed_back = c.push.ensures.value-returned;
     }

@@ -5,7 +5,7 @@ use Rattle.rows.proofs.row.RowBank.take_at.Goals as goal
 pub returns-in-Some : goal.returns-in-Some
 returns-in-Some g c =
     let place = c.in-Some.ensures in
-    let read = c.index-mut.ensures.value in
+    let read = c.index_mut.ensures.value in
     record {
       carries = place.changes (taken c.args.target) _ _ read c.take.ensures.carries;
       answers = c.take.ensures.answers ∙ ap (take_answer c.args.target) (sym (place.there _ read));
