@@ -50,7 +50,7 @@ pub struct Axis {
 
 // What a move does to the drive: the state entered, if any, decides.
 fn enter<B: Bank>(bank: &mut B, number: u8, from: State, entered: Option<State>)
-    ensures { meanings bank.new ≡ changed (after_move from entered) (meanings bank.old) number }
+    ensures { B.meanings bank.new ≡ changed (after_move from entered) (B.meanings bank.old) number }
 {
     let Some(next) = entered else {
         return;
@@ -67,8 +67,8 @@ fn enter<B: Bank>(bank: &mut B, number: u8, from: State, entered: Option<State>)
 
 // Gives the drive a target, and tells its refusal. The drive holds where there is no target, and where it refuses.
 fn give<B: Bank>(bank: &mut B, number: u8, target: Option<Target>) -> Option<Refusal>
-    ensures driven { meanings bank.new ≡ changed (given target) (meanings bank.old) number }
-    ensures tells { result ≡ refusal_of target (drive_at (meanings bank.old) number) }
+    ensures driven { B.meanings bank.new ≡ changed (given target) (B.meanings bank.old) number }
+    ensures tells { result ≡ refusal_of target (drive_at (B.meanings bank.old) number) }
 {
     let Some(target) = target else {
         bank.hold_at(number);
@@ -197,7 +197,7 @@ impl Axis {
 
     // Takes note of a part that is acted on. A known mode is displayed unless operation was enabled as the cycle began.
     fn note<B: Bank>(&mut self, part: Part, was_enabled: bool, bank: &B, number: u8)
-        ensures { self.new ≡ noted part was_enabled (drive_at (meanings bank.now) number) self.old }
+        ensures { self.new ≡ noted part was_enabled (drive_at (B.meanings bank.now) number) self.old }
     {
         match part.mode {
             Some(mode) => self.wanted = mode,
@@ -231,8 +231,8 @@ impl Axis {
 
     // Acts on a part once the axis has moved: in Operation enabled the drive is given the target that the part names.
     fn act_on<B: Bank>(&mut self, part: Part, was_enabled: bool, bank: &mut B, number: u8)
-        ensures noted { self.new ≡ acted part was_enabled (drive_at (meanings bank.old) number) self.old }
-        ensures driven { meanings bank.new ≡ changed (acted_drive part was_enabled self.old) (meanings bank.old) number }
+        ensures noted { self.new ≡ acted part was_enabled (drive_at (B.meanings bank.old) number) self.old }
+        ensures driven { B.meanings bank.new ≡ changed (acted_drive part was_enabled self.old) (B.meanings bank.old) number }
     {
         self.note(part, was_enabled, bank, number);
         if self.is_enabled() {
@@ -242,8 +242,8 @@ impl Axis {
 
     // What is left of a cycle after the move, for an axis that has made one and for one that has not: a part that the line brings is acted on.
     fn heed<B: Bank>(&mut self, line: Line, was_enabled: bool, bank: &mut B, number: u8)
-        ensures noted { self.new ≡ heeded line was_enabled (drive_at (meanings bank.old) number) self.old }
-        ensures driven { meanings bank.new ≡ changed (heeded_drive line was_enabled self.old) (meanings bank.old) number }
+        ensures noted { self.new ≡ heeded line was_enabled (drive_at (B.meanings bank.old) number) self.old }
+        ensures driven { B.meanings bank.new ≡ changed (heeded_drive line was_enabled self.old) (B.meanings bank.old) number }
     {
         match line {
             Line::Acts(part) => self.act_on(part, was_enabled, bank, number),
@@ -272,8 +272,8 @@ impl Axis {
         record: &[u8; RECORD_LENGTH],
         line: Line,
     )
-        ensures axis_steps { self.new ≡ axis_under (Cycles line «record».now) self.old (drive_at (meanings bank.old) number) }
-        ensures drive_steps { meanings bank.new ≡ changed (drive_under (Cycles line «record».now) self.old) (meanings bank.old) number }
+        ensures axis_steps { self.new ≡ axis_under (Cycles line «record».now) self.old (drive_at (B.meanings bank.old) number) }
+        ensures drive_steps { B.meanings bank.new ≡ changed (drive_under (Cycles line «record».now) self.old) (B.meanings bank.old) number }
     {
         let from = self.state;
         let was_enabled = self.is_enabled();
@@ -286,8 +286,8 @@ impl Axis {
 
     // The loss of the line outside a cycle: AL has left Operational by a request.
     pub fn lose_line<B: Bank>(&mut self, bank: &mut B, number: u8)
-        ensures axis_steps { self.new ≡ axis_under LineLost self.old (drive_at (meanings bank.old) number) }
-        ensures drive_steps { meanings bank.new ≡ changed (drive_under LineLost self.old) (meanings bank.old) number }
+        ensures axis_steps { self.new ≡ axis_under LineLost self.old (drive_at (B.meanings bank.old) number) }
+        ensures drive_steps { B.meanings bank.new ≡ changed (drive_under LineLost self.old) (B.meanings bank.old) number }
     {
         let from = self.state;
         let entered = self.break_off();

@@ -54,7 +54,7 @@ pub trait Bank {
 
 // De-energises every drive of the bank.
 pub fn de_energise_all<B: Bank>(bank: &mut B)
-    ensures { meanings bank.new ≡ map de_energised (meanings bank.old) }
+    ensures { B.meanings bank.new ≡ map de_energised (B.meanings bank.old) }
 {
     let count = bank.count();
     for number in 0..count {

@@ -22,8 +22,8 @@ use text::fault::Fault;
 
 // Carries out an operation on the drive of a number. Only a take answers.
 fn operate<B: Bank>(bank: &mut B, number: u8, operation: Operation) -> Option<Result<(), Refusal>>
-    ensures one_drive_changes { meanings bank.new ≡ changed (operated operation) (meanings bank.old) number }
-    ensures answers { result ≡ operation_answer operation (drive_at (meanings bank.old) number) }
+    ensures one_drive_changes { B.meanings bank.new ≡ changed (operated operation) (B.meanings bank.old) number }
+    ensures answers { result ≡ operation_answer operation (drive_at (B.meanings bank.old) number) }
 {
     match operation {
         Operation::Energise => {
@@ -48,7 +48,7 @@ fn operate<B: Bank>(bank: &mut B, number: u8, operation: Operation) -> Option<Re
 
 // What the drive of a number holds, where the number may be any: past 254 it is beyond every bank.
 fn held_by<B: Bank>(bank: &B, number: usize) -> Held
-    ensures { result ≡ (drive_at (meanings bank.now) number).held }
+    ensures { result ≡ (drive_at (B.meanings bank.now) number).held }
 {
     match u8::try_from(number) {
         Ok(number) => bank.held_at(number),

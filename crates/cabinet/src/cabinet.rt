@@ -42,7 +42,7 @@ impl<B: Bank> Cabinet<B> {
     // Makes a cabinet with its number and its delay, which is brought into 1 to 60,000 cycles. Every drive of the bank
     // loses its power.
     pub fn new(bank: B, number: u32, delay: u16) -> Cabinet<B>
-        ensures { standing (meanings result.bank) result ≡ made number delay (meanings bank) }
+        ensures { standing (B.meanings result.bank) result ≡ made number delay (B.meanings bank) }
     {
         let mut bank = bank;
         de_energise_all(&mut bank);
@@ -78,21 +78,21 @@ impl<B: Bank> Cabinet<B> {
 
     // How many drives the bank has.
     pub fn drive_count(&self) -> u8
-        ensures { result ≡ length (meanings self.now.bank) }
+        ensures { result ≡ length (B.meanings self.now.bank) }
     {
         self.bank.count()
     }
 
     // How many axes there are.
     pub fn axis_count(&self) -> u8
-        ensures { result ≡ axis_count (meanings self.now.bank) }
+        ensures { result ≡ axis_count (B.meanings self.now.bank) }
     {
         self.drive_count().min(MOST_AXES as u8)
     }
 
     // What a drive of the bank holds, with an axis or without.
     pub fn held(&self, drive: u8) -> Held
-        ensures { result ≡ (drive_at (meanings self.now.bank) drive).held }
+        ensures { result ≡ (drive_at (B.meanings self.now.bank) drive).held }
     {
         self.bank.held_at(drive)
     }
@@ -109,7 +109,7 @@ impl<B: Bank> Cabinet<B> {
 
     // What is shown of an axis, none beyond the axes.
     pub fn axis(&self, number: u8) -> Option<ShownAxis>
-        ensures { result ≡ shown_at (standing (meanings self.now.bank) self.now) number }
+        ensures { result ≡ shown_at (standing (B.meanings self.now.bank) self.now) number }
     {
         if number >= self.axis_count() {
             return None;

@@ -13,7 +13,7 @@ use std::fmt::Write;
 
 // Adds the line of an axis to the log.
 fn write_axis<B: Bank>(cabinet: &Cabinet<B>, number: u8, log: &mut String) -> fmt::Result
-    ensures { Adds result (axis_line (standing (meanings cabinet.now.bank) cabinet.now) number) (string_bytes log.old) (string_bytes log.new) }
+    ensures { Adds result (axis_line (standing (B.meanings cabinet.now.bank) cabinet.now) number) (string_bytes log.old) (string_bytes log.new) }
 {
     match cabinet.axis(number) {
         Some(axis) => {
@@ -26,7 +26,7 @@ fn write_axis<B: Bank>(cabinet: &Cabinet<B>, number: u8, log: &mut String) -> fm
 
 // Adds to the log how the cabinet stands: AL, and below it each axis.
 pub fn write_standing<B: Bank>(cabinet: &Cabinet<B>, log: &mut String) -> fmt::Result
-    ensures { Adds result (standing_text (standing (meanings cabinet.now.bank) cabinet.now)) (string_bytes log.old) (string_bytes log.new) }
+    ensures { Adds result (standing_text (standing (B.meanings cabinet.now.bank) cabinet.now)) (string_bytes log.old) (string_bytes log.new) }
 {
     let al = AlLine {
         al: cabinet.al(),
@@ -41,7 +41,7 @@ pub fn write_standing<B: Bank>(cabinet: &Cabinet<B>, log: &mut String) -> fmt::R
 
 // Adds to the log the drives of the bank that have no axis.
 pub fn write_spare_drives<B: Bank>(cabinet: &Cabinet<B>, log: &mut String) -> fmt::Result
-    ensures { Adds result (spare_text (meanings cabinet.now.bank)) (string_bytes log.old) (string_bytes log.new) }
+    ensures { Adds result (spare_text (B.meanings cabinet.now.bank)) (string_bytes log.old) (string_bytes log.new) }
 {
     for number in cabinet.axis_count()..cabinet.drive_count() {
         let drive = ShownDrive {
