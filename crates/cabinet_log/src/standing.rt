@@ -8,11 +8,11 @@ use crate::line::{AlLine, AxisLine};
 use banks::bank::Bank;
 use cabinet::cabinet::Cabinet;
 use drive_log::drive::ShownDrive;
-use std::fmt;
+use std::alloc::AllocError;
 use std::fmt::Write;
 
 // Adds the line of an axis to the log.
-fn write_axis<B: Bank>(cabinet: &Cabinet<B>, number: u8, log: &mut String) -> fmt::Result
+fn write_axis<B: Bank>(cabinet: &Cabinet<B>, number: u8, log: &mut String) -> Result<(), AllocError>
     ensures { Adds result (axis_line (standing (B.meanings cabinet.now.bank) cabinet.now) number) (string_bytes log.old) (string_bytes log.new) }
 {
     match cabinet.axis(number) {
@@ -25,7 +25,7 @@ fn write_axis<B: Bank>(cabinet: &Cabinet<B>, number: u8, log: &mut String) -> fm
 }
 
 // Adds to the log how the cabinet stands: AL, and below it each axis.
-pub fn write_standing<B: Bank>(cabinet: &Cabinet<B>, log: &mut String) -> fmt::Result
+pub fn write_standing<B: Bank>(cabinet: &Cabinet<B>, log: &mut String) -> Result<(), AllocError>
     ensures { Adds result (standing_text (standing (B.meanings cabinet.now.bank) cabinet.now)) (string_bytes log.old) (string_bytes log.new) }
 {
     let al = AlLine {
@@ -40,7 +40,7 @@ pub fn write_standing<B: Bank>(cabinet: &Cabinet<B>, log: &mut String) -> fmt::R
 }
 
 // Adds to the log the drives of the bank that have no axis.
-pub fn write_spare_drives<B: Bank>(cabinet: &Cabinet<B>, log: &mut String) -> fmt::Result
+pub fn write_spare_drives<B: Bank>(cabinet: &Cabinet<B>, log: &mut String) -> Result<(), AllocError>
     ensures { Adds result (spare_text (B.meanings cabinet.now.bank)) (string_bytes log.old) (string_bytes log.new) }
 {
     for number in cabinet.axis_count()..cabinet.drive_count() {

@@ -3,7 +3,7 @@ ghost use Rattle.std.specs.Prelude.{◌≡◌, None, string_bytes};
 ghost use Rattle.drive_log.specs.Added.{Adds};
 ghost use Rattle.call_log.specs.CallTexts.{both_text, call_text, same_lines};
 
-use std::fmt;
+use std::alloc::AllocError;
 use std::fmt::Write;
 
 // What a call answers, and the lines below it, which show how the cabinet stands.
@@ -28,7 +28,7 @@ fn write_call(
     delay: Option<u16>,
     lines: &Lines,
     log: &mut String,
-) -> fmt::Result
+) -> Result<(), AllocError>
     ensures { Adds result (call_text number directive.now delay lines.now) (string_bytes log.old) (string_bytes log.new) }
 {
     let answer = &lines.answer;
@@ -43,7 +43,12 @@ fn write_call(
 }
 
 // Adds the lines of a call to one cabinet.
-pub fn write_lines(number: u64, directive: &str, lines: &Lines, log: &mut String) -> fmt::Result
+pub fn write_lines(
+    number: u64,
+    directive: &str,
+    lines: &Lines,
+    log: &mut String,
+) -> Result<(), AllocError>
     ensures { Adds result (call_text number directive.now None lines.now) (string_bytes log.old) (string_bytes log.new) }
 {
     write_call(number, directive, None, lines, log)
@@ -63,7 +68,7 @@ pub fn write_both_lines(
     first: DelayedLines<'_>,
     second: DelayedLines<'_>,
     log: &mut String,
-) -> fmt::Result
+) -> Result<(), AllocError>
     ensures { Adds result (both_text number directive.now first.entry.delay first.entry.lines.now second.entry.delay second.entry.lines.now) (string_bytes log.old) (string_bytes log.new) }
 {
     if first.lines.is_same(second.lines) {

@@ -4,6 +4,7 @@ ghost use Rattle.drive_log.specs.Added.{Adds};
 ghost use Rattle.replay.specs.Closings.{run_out_text, parted_text, side_text, parting_text};
 
 use crate::side::Side;
+use std::alloc::AllocError;
 use std::fmt;
 use std::fmt::Write;
 
@@ -27,7 +28,7 @@ impl fmt::Display for ShownRunOut {
 }
 
 // Adds to the log whether the watch of a side's cabinet ran out.
-pub(crate) fn write_run_out(side: &Side, log: &mut String) -> fmt::Result
+pub(crate) fn write_run_out(side: &Side, log: &mut String) -> Result<(), AllocError>
     ensures { Adds result (side_text side.now) (string_bytes log.old) (string_bytes log.new) }
 {
     let shown = ShownRunOut {
@@ -55,7 +56,7 @@ impl fmt::Display for ShownParting {
 }
 
 // Adds to the log whether two cabinets parted.
-pub(crate) fn write_parting(parted: Option<u64>, log: &mut String) -> fmt::Result
+pub(crate) fn write_parting(parted: Option<u64>, log: &mut String) -> Result<(), AllocError>
     ensures { Adds result (parting_text parted) (string_bytes log.old) (string_bytes log.new) }
 {
     let shown = ShownParting { parted };

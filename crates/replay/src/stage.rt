@@ -14,8 +14,7 @@ use calls::call::Call;
 use calls::directive::{Build, CabinetDirective, read_cabinet_directive};
 use grammar::wrong::Wrong;
 use scenario::directive::read_directive;
-use std::alloc::Global;
-use std::fmt;
+use std::alloc::{AllocError, Global};
 
 // The drives on the bench, twice: a cabinet takes its bank along, and a second one needs a bank of its own.
 #[derive(Drop)]
@@ -140,7 +139,7 @@ impl Pair {
         first: &Lines,
         second: &Lines,
         log: &mut String,
-    ) -> fmt::Result
+    ) -> Result<(), AllocError>
         ensures { Adds result (both_text number directive.now (delay_of self.now.first) first.now (delay_of self.now.second) second.now) (string_bytes log.old) (string_bytes log.new) }
     {
         let first = DelayedLines {
@@ -258,7 +257,7 @@ impl Replay {
     }
 
     // Closes the log: whether the watch of each cabinet ran out, and whether two parted. A bench run has no such lines.
-    pub fn close(&self, log: &mut String) -> fmt::Result
+    pub fn close(&self, log: &mut String) -> Result<(), AllocError>
         ensures { Adds result (closing_text self.now.stage) (string_bytes log.old) (string_bytes log.new) }
     {
         match &self.stage {

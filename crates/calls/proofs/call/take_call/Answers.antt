@@ -7,28 +7,28 @@ use Rattle.calls.specs.Calls.{Asked, Requests, Cycles, request_in, cycle_in, cal
 use Rattle.calls.specs.Heard.{cycle_asks}
 use Rattle.calls.proofs.call.take_call.Goals as goal
 
-pub returns-in_err-request : goal.returns-in_err-request
+pub returns-in_err-request-in-Request : goal.returns-in_err-request-in-Request
 unfolding call_in
-returns-in_err-request c =
+returns-in_err-request-in-Request c =
     let p = err_from_is_err_and c.from_residual.result c.from_residual.ensures.1 in
     rw (p.1, p.2, c.in-Request.is)
-    (stops {Y = Asked × Words} (request_in (words_left c.args.words.now)) (λ request rest. Ok (Requests request, rest)) c.in_err-request.field-0.0 (inr c.in_err-request.ensures))
+    (stops {Y = Asked × Words} (request_in (words_left c.args.words.now)) (λ request rest. Ok (Requests request, rest)) c.in_err-request-in-Request.field-0.0 (inr c.in_err-request-in-Request.ensures))
 
-pub returns-in_ok-request : goal.returns-in_ok-request
+pub returns-in_ok-request-in-Request : goal.returns-in_ok-request-in-Request
 unfolding call_in
-returns-in_ok-request c =
+returns-in_ok-request-in-Request c =
     rw c.in-Request.is
-    (goes_on {Y = Asked × Words} (request_in (words_left c.args.words.now)) (λ request rest. Ok (Requests request, rest)) c.in_ok-request.request (words_left c.take_request.new.words) _ (inr c.in_ok-request.ensures) (inr refl))
+    (goes_on {Y = Asked × Words} (request_in (words_left c.args.words.now)) (λ request rest. Ok (Requests request, rest)) c.in_ok-request-in-Request.request (words_left c.take_request.new.words) _ (inr c.in_ok-request-in-Request.ensures) (inr refl))
 
-pub returns-in_err-cycle : goal.returns-in_err-cycle
+pub returns-in_err-cycle-in-Cycle : goal.returns-in_err-cycle-in-Cycle
 unfolding call_in
-returns-in_err-cycle c =
-    let p = err_from_is_err_and c.from_residual-in_err-cycle.result c.from_residual-in_err-cycle.ensures.1 in
+returns-in_err-cycle-in-Cycle c =
+    let p = err_from_is_err_and c.from_residual-in_err-cycle-in-Cycle.result c.from_residual-in_err-cycle-in-Cycle.ensures.1 in
     rw (p.1, p.2, c.in-Cycle.is)
-    (stops {Y = Asked × Words} (cycle_in (words_left c.args.words.now)) (λ cycle rest. Ok (Cycles cycle, rest)) c.in_err-cycle.field-0.0 c.in_err-cycle.ensures)
+    (stops {Y = Asked × Words} (cycle_in (words_left c.args.words.now)) (λ cycle rest. Ok (Cycles cycle, rest)) c.in_err-cycle-in-Cycle.field-0.0 c.in_err-cycle-in-Cycle.ensures)
 
-pub returns-in_ok-cycle : goal.returns-in_ok-cycle
+pub returns-in_ok-cycle-in-Cycle : goal.returns-in_ok-cycle-in-Cycle
 unfolding call_in
-returns-in_ok-cycle c =
+returns-in_ok-cycle-in-Cycle c =
     rw c.in-Cycle.is
-    (goes_on {Y = Asked × Words} (cycle_in (words_left c.args.words.now)) (λ cycle rest. Ok (Cycles cycle, rest)) (cycle_asks c.in_ok-cycle.cycle) (words_left c.take_cycle.new.words) _ c.in_ok-cycle.ensures (inr refl))
+    (goes_on {Y = Asked × Words} (cycle_in (words_left c.args.words.now)) (λ cycle rest. Ok (Cycles cycle, rest)) (cycle_asks c.in_ok-cycle-in-Cycle.cycle) (words_left c.take_cycle.new.words) _ c.in_ok-cycle-in-Cycle.ensures (inr refl))

@@ -7,28 +7,28 @@ use Rattle.calls.specs.Calls.{CabinetSaid, Builds, Asks, build_in, call_in, argu
 use Rattle.calls.specs.Heard.{call_asks}
 use Rattle.calls.proofs.directive.take_arguments.Goals as goal
 
-pub returns-in_err-build : goal.returns-in_err-build
+pub returns-in_err-build-in-Cabinet : goal.returns-in_err-build-in-Cabinet
 unfolding arguments_in
-returns-in_err-build c =
+returns-in_err-build-in-Cabinet c =
     let p = err_from_is_err_and c.from_residual.result c.from_residual.ensures.1 in
     rw (p.1, p.2, c.in-Cabinet.is)
-    (stops {Y = CabinetSaid × Words} (build_in (words_left c.args.words.now)) (λ build rest. Ok (Builds build, rest)) c.in_err-build.field-0.0 (inr c.in_err-build.ensures))
+    (stops {Y = CabinetSaid × Words} (build_in (words_left c.args.words.now)) (λ build rest. Ok (Builds build, rest)) c.in_err-build-in-Cabinet.field-0.0 (inr c.in_err-build-in-Cabinet.ensures))
 
-pub returns-in_ok-build : goal.returns-in_ok-build
+pub returns-in_ok-build-in-Cabinet : goal.returns-in_ok-build-in-Cabinet
 unfolding arguments_in
-returns-in_ok-build c =
+returns-in_ok-build-in-Cabinet c =
     rw c.in-Cabinet.is
-    (goes_on {Y = CabinetSaid × Words} (build_in (words_left c.args.words.now)) (λ build rest. Ok (Builds build, rest)) c.in_ok-build.build (words_left c.take_build.new.words) _ (inr c.in_ok-build.ensures) (inr refl))
+    (goes_on {Y = CabinetSaid × Words} (build_in (words_left c.args.words.now)) (λ build rest. Ok (Builds build, rest)) c.in_ok-build-in-Cabinet.build (words_left c.take_build.new.words) _ (inr c.in_ok-build-in-Cabinet.ensures) (inr refl))
 
-pub returns-in_err-call : goal.returns-in_err-call
+pub returns-in_err-call-in-Call : goal.returns-in_err-call-in-Call
 unfolding arguments_in
-returns-in_err-call c =
-    let p = err_from_is_err_and c.from_residual-in_err-call.result c.from_residual-in_err-call.ensures.1 in
+returns-in_err-call-in-Call c =
+    let p = err_from_is_err_and c.from_residual-in_err-call-in-Call.result c.from_residual-in_err-call-in-Call.ensures.1 in
     rw (p.1, p.2, c.in-Call.is)
-    (stops {Y = CabinetSaid × Words} (call_in c.in-Call.name (words_left c.args.words.now)) (λ asked rest. Ok (Asks asked, rest)) c.in_err-call.field-0.0 c.in_err-call.ensures)
+    (stops {Y = CabinetSaid × Words} (call_in c.in-Call.name (words_left c.args.words.now)) (λ asked rest. Ok (Asks asked, rest)) c.in_err-call-in-Call.field-0.0 c.in_err-call-in-Call.ensures)
 
-pub returns-in_ok-call : goal.returns-in_ok-call
+pub returns-in_ok-call-in-Call : goal.returns-in_ok-call-in-Call
 unfolding arguments_in
-returns-in_ok-call c =
+returns-in_ok-call-in-Call c =
     rw c.in-Call.is
-    (goes_on {Y = CabinetSaid × Words} (call_in c.in-Call.name (words_left c.args.words.now)) (λ asked rest. Ok (Asks asked, rest)) (call_asks c.in_ok-call.call) (words_left c.take_call.new.words) _ c.in_ok-call.ensures (inr refl))
+    (goes_on {Y = CabinetSaid × Words} (call_in c.in-Call.name (words_left c.args.words.now)) (λ asked rest. Ok (Asks asked, rest)) (call_asks c.in_ok-call-in-Call.call) (words_left c.take_call.new.words) _ c.in_ok-call-in-Call.ensures (inr refl))

@@ -7,5 +7,5 @@ returns g c =
     record {
       appended = c.push.ensures.items;
       joins_the_bank = row_pushed g.D.Drive.meaning (vec_items c.args.self.now.drives) _ c.args.drive _ c.push.ensures.items;
-      handed_back = c.push.ensures.value-returned;
+      handed_back = c.push.ensures.value_returned;
     }
