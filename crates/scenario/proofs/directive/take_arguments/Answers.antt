@@ -8,35 +8,35 @@ use Rattle.scenario.specs.Makes.{make_in}
 use Rattle.grammar.proofs.Memory.{goes_on, stops}
 use Rattle.scenario.proofs.directive.take_arguments.Goals as goal
 
-pub returns-in_err-drive : goal.returns-in_err-drive
+pub returns-in_err-drive-in-Drive : goal.returns-in_err-drive-in-Drive
 unfolding arguments_in
-returns-in_err-drive c =
+returns-in_err-drive-in-Drive c =
     let p = err_from_is_err_and c.from_residual.result c.from_residual.ensures.1 in
-    rw (p.1, p.2, c.in-Drive.is) (stops {Y = Said × Words} (make_in (words_left c.args.words.now)) (λ drive rest. Ok (Declares drive, rest)) c.in_err-drive.field-0.0 c.in_err-drive.ensures)
+    rw (p.1, p.2, c.in-Drive.is) (stops {Y = Said × Words} (make_in (words_left c.args.words.now)) (λ drive rest. Ok (Declares drive, rest)) c.in_err-drive-in-Drive.field-0.0 c.in_err-drive-in-Drive.ensures)
 
-pub returns-in_ok-drive : goal.returns-in_ok-drive
+pub returns-in_ok-drive-in-Drive : goal.returns-in_ok-drive-in-Drive
 unfolding arguments_in
-returns-in_ok-drive c =
+returns-in_ok-drive-in-Drive c =
     rw c.in-Drive.is
-    (goes_on {Y = Said × Words} (make_in (words_left c.args.words.now)) (λ drive rest. Ok (Declares drive, rest)) (stack_is c.in_ok-drive.drive) (words_left c.take_drive.new.words) _ c.in_ok-drive.ensures (inr refl))
+    (goes_on {Y = Said × Words} (make_in (words_left c.args.words.now)) (λ drive rest. Ok (Declares drive, rest)) (stack_is c.in_ok-drive-in-Drive.drive) (words_left c.take_drive.new.words) _ c.in_ok-drive-in-Drive.ensures (inr refl))
 
-pub returns-in_err-number : goal.returns-in_err-number
+pub returns-in_err-number-in-Operation : goal.returns-in_err-number-in-Operation
 unfolding arguments_in
-returns-in_err-number c =
-    let p = err_from_is_err_and c.from_residual-in_err-number.result c.from_residual-in_err-number.ensures.1 in
-    rw (p.1, p.2, c.in-Operation.is) (stops {Y = Said × Words} (drive_in (words_left c.args.words.now)) (λ i r. and_then (operation_in c.in-Operation.verb r) (λ operation rest. Ok (Operates i operation, rest))) c.in_err-number.field-0.0 (inr c.in_err-number.ensures))
+returns-in_err-number-in-Operation c =
+    let p = err_from_is_err_and c.from_residual-in_err-number-in-Operation.result c.from_residual-in_err-number-in-Operation.ensures.1 in
+    rw (p.1, p.2, c.in-Operation.is) (stops {Y = Said × Words} (drive_in (words_left c.args.words.now)) (λ i r. and_then (operation_in c.in-Operation.verb r) (λ operation rest. Ok (Operates i operation, rest))) c.in_err-number-in-Operation.field-0.0 (inr c.in_err-number-in-Operation.ensures))
 
-pub returns-in_err-operation : goal.returns-in_err-operation
+pub returns-in_err-operation-in-Operation : goal.returns-in_err-operation-in-Operation
 unfolding arguments_in
-returns-in_err-operation c =
-    let p = err_from_is_err_and c.from_residual-in_err-operation.result c.from_residual-in_err-operation.ensures.1 in
+returns-in_err-operation-in-Operation c =
+    let p = err_from_is_err_and c.from_residual-in_err-operation-in-Operation.result c.from_residual-in_err-operation-in-Operation.ensures.1 in
     rw (p.1, p.2, c.in-Operation.is)
-    (goes_on {Y = Said × Words} (drive_in (words_left c.args.words.now)) (λ i r. and_then (operation_in c.in-Operation.verb r) (λ operation rest. Ok (Operates i operation, rest))) c.in_ok-number.number (words_left c.take_number.new.words) _ (inr c.in_ok-number.ensures)
-    (stops {Y = Said × Words} (operation_in c.in-Operation.verb (words_left c.take_number.new.words)) (λ operation rest. Ok (Operates c.in_ok-number.number operation, rest)) c.in_err-operation.field-0.0 c.in_err-operation.ensures))
+    (goes_on {Y = Said × Words} (drive_in (words_left c.args.words.now)) (λ i r. and_then (operation_in c.in-Operation.verb r) (λ operation rest. Ok (Operates i operation, rest))) c.in_ok-number-in-Operation.number (words_left c.take_number.new.words) _ (inr c.in_ok-number-in-Operation.ensures)
+    (stops {Y = Said × Words} (operation_in c.in-Operation.verb (words_left c.take_number.new.words)) (λ operation rest. Ok (Operates c.in_ok-number-in-Operation.number operation, rest)) c.in_err-operation-in-Operation.field-0.0 c.in_err-operation-in-Operation.ensures))
 
-pub returns-in_ok-operation : goal.returns-in_ok-operation
+pub returns-in_ok-operation-in-Operation : goal.returns-in_ok-operation-in-Operation
 unfolding arguments_in
-returns-in_ok-operation c =
+returns-in_ok-operation-in-Operation c =
     rw c.in-Operation.is
-    (goes_on {Y = Said × Words} (drive_in (words_left c.args.words.now)) (λ i r. and_then (operation_in c.in-Operation.verb r) (λ operation rest. Ok (Operates i operation, rest))) c.in_ok-number.number (words_left c.take_number.new.words) _ (inr c.in_ok-number.ensures)
-    (goes_on {Y = Said × Words} (operation_in c.in-Operation.verb (words_left c.take_number.new.words)) (λ operation rest. Ok (Operates c.in_ok-number.number operation, rest)) c.in_ok-operation.operation (words_left c.take_operation.new.words) _ c.in_ok-operation.ensures (inr refl)))
+    (goes_on {Y = Said × Words} (drive_in (words_left c.args.words.now)) (λ i r. and_then (operation_in c.in-Operation.verb r) (λ operation rest. Ok (Operates i operation, rest))) c.in_ok-number-in-Operation.number (words_left c.take_number.new.words) _ (inr c.in_ok-number-in-Operation.ensures)
+    (goes_on {Y = Said × Words} (operation_in c.in-Operation.verb (words_left c.take_number.new.words)) (λ operation rest. Ok (Operates c.in_ok-number-in-Operation.number operation, rest)) c.in_ok-operation-in-Operation.operation (words_left c.take_operation.new.words) _ c.in_ok-operation-in-Operation.ensures (inr refl)))

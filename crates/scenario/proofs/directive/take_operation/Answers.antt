@@ -20,26 +20,26 @@ pub returns-in-Hold : goal.returns-in-Hold
 unfolding operation_in
 returns-in-Hold c = rw c.in-Hold.is (inr refl)
 
-pub returns-in_err-record : goal.returns-in_err-record
+pub returns-in_err-record-in-Sample : goal.returns-in_err-record-in-Sample
 unfolding operation_in
-returns-in_err-record c =
+returns-in_err-record-in-Sample c =
     let p = err_from_is_err_and c.from_residual.result c.from_residual.ensures.1 in
-    rw (p.1, p.2, c.in-Sample.is) (stops {Y = Operation × Words} (record_in (words_left c.args.words.now)) (λ x rest. Ok (Sample x, rest)) c.in_err-record.field-0.0 c.in_err-record.ensures)
+    rw (p.1, p.2, c.in-Sample.is) (stops {Y = Operation × Words} (record_in (words_left c.args.words.now)) (λ x rest. Ok (Sample x, rest)) c.in_err-record-in-Sample.field-0.0 c.in_err-record-in-Sample.ensures)
 
-pub returns-in_ok-record : goal.returns-in_ok-record
+pub returns-in_ok-record-in-Sample : goal.returns-in_ok-record-in-Sample
 unfolding operation_in
-returns-in_ok-record c =
+returns-in_ok-record-in-Sample c =
     rw c.in-Sample.is
-    (goes_on {Y = Operation × Words} (record_in (words_left c.args.words.now)) (λ x rest. Ok (Sample x, rest)) c.in_ok-record.record (words_left c.take_record.new.words) _ c.in_ok-record.ensures (inr refl))
+    (goes_on {Y = Operation × Words} (record_in (words_left c.args.words.now)) (λ x rest. Ok (Sample x, rest)) c.in_ok-record-in-Sample.record (words_left c.take_record.new.words) _ c.in_ok-record-in-Sample.ensures (inr refl))
 
-pub returns-in_err-target : goal.returns-in_err-target
+pub returns-in_err-target-in-Take : goal.returns-in_err-target-in-Take
 unfolding operation_in
-returns-in_err-target c =
-    let p = err_from_is_err_and c.from_residual-in_err-target.result c.from_residual-in_err-target.ensures.1 in
-    rw (p.1, p.2, c.in-Take.is) (stops {Y = Operation × Words} (target_in (words_left c.args.words.now)) (λ x rest. Ok (Take x, rest)) c.in_err-target.field-0.0 (inr c.in_err-target.ensures))
+returns-in_err-target-in-Take c =
+    let p = err_from_is_err_and c.from_residual-in_err-target-in-Take.result c.from_residual-in_err-target-in-Take.ensures.1 in
+    rw (p.1, p.2, c.in-Take.is) (stops {Y = Operation × Words} (target_in (words_left c.args.words.now)) (λ x rest. Ok (Take x, rest)) c.in_err-target-in-Take.field-0.0 (inr c.in_err-target-in-Take.ensures))
 
-pub returns-in_ok-target : goal.returns-in_ok-target
+pub returns-in_ok-target-in-Take : goal.returns-in_ok-target-in-Take
 unfolding operation_in
-returns-in_ok-target c =
+returns-in_ok-target-in-Take c =
     rw c.in-Take.is
-    (goes_on {Y = Operation × Words} (target_in (words_left c.args.words.now)) (λ x rest. Ok (Take x, rest)) c.in_ok-target.target (words_left c.take_target.new.words) _ (inr c.in_ok-target.ensures) (inr refl))
+    (goes_on {Y = Operation × Words} (target_in (words_left c.args.words.now)) (λ x rest. Ok (Take x, rest)) c.in_ok-target-in-Take.target (words_left c.take_target.new.words) _ (inr c.in_ok-target-in-Take.ensures) (inr refl))
