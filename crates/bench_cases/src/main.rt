@@ -25,7 +25,7 @@ fn main(rt: HostRuntime) -> anyhow::Result<()> {
             break;
         }
         line.truncate(line.len().saturating_sub(1));
-        if line.as_slice() == b"---" {
+        if line.as_slice() == b"---".as_slice() {
             bench = Bench::new(rt.alloc());
         } else {
             print_line(&rt, &mut bench, number, line.as_slice())?;

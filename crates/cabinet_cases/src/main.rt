@@ -18,7 +18,7 @@ fn replay_one<R: BufRead>(rt: &HostRuntime, input: &mut R) -> anyhow::Result<boo
             break;
         }
         line.truncate(line.len().saturating_sub(1));
-        if line.as_slice() == b"---" {
+        if line.as_slice() == b"---".as_slice() {
             more = true;
             break;
         }

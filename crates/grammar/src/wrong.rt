@@ -44,15 +44,6 @@ impl From<AllocError> for Wrong {
     }
 }
 
-// A text is refused only where memory is wanting.
-impl From<fmt::Error> for Wrong {
-    ghost from_gives = { λ _ r. r ≡ Word NoMemory };
-
-    fn from(_error: fmt::Error) -> Wrong {
-        Wrong::Word(Fault::NoMemory)
-    }
-}
-
 impl fmt::Display for Wrong {
     fn fmt<W: fmt::Write>(&self, f: &mut fmt::Formatter<W>) -> fmt::Result {
         let what = match self {

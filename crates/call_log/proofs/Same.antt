@@ -1,7 +1,0 @@
--- What `==` says of texts.
-use Rattle.std.proofs.Common.{◌≡◌, ℕ, Bool, List, Decides, rules}
-use Rattle.std.specs.Str.{bytes_eq}
-use Rattle.std.proofs.lemmas.Slice.Eq.{bytes_eq-Decides}
-
-pub tested : (xs ys : List ℕ) (r : Bool) → Decides r (xs ≡ ys) → r ≡ bytes_eq xs ys
-tested xs ys r decides = search (rules, bytes_eq-Decides)
