@@ -1,6 +1,6 @@
 -- A bank as the list of its drives' meanings, each operated by its number.
 use Rattle.std.specs.Prelude.{ℕ, false, List, pos, slice_index_or, slice_set}
-use Rattle.std.specs.List.{AllByRecursion as All}
+use Rattle.std.specs.List.{AllByRecursion}
 use Rattle.drives.specs.declared.target.Cause.TheVariants.{NoPower}
 use Rattle.drives.specs.Holdings.{at_rest, refusal_for}
 use Rattle.drives.specs.Meaning.{DriveMeaning, Lawful}
@@ -31,4 +31,4 @@ abbrev pub changed : (DriveMeaning → DriveMeaning) → List DriveMeaning → �
 changed f drives i = slice_set drives i (f (drive_at drives i))
 
 abbrev pub AllLawful : List DriveMeaning → Type 0
-AllLawful drives = All (λ d. Lawful d.make) drives
+AllLawful drives = AllByRecursion (λ d. Lawful d.make) drives
