@@ -14,7 +14,7 @@ abbrev pub hex_digit : ℕ → ℕ
 hex_digit n = slice_index (codes "0123456789abcdef") n
 
 -- 0x and four hexadecimal digits
-unfoldable pub word_text : ℕ → List ℕ
+abbrev pub word_text : ℕ → List ℕ
 word_text n = codes "0x" ++ (hex_digit (n / 4096 % 16) ∷ hex_digit (n / 256 % 16) ∷ hex_digit (n / 16 % 16) ∷ hex_digit (n % 16) ∷ [])
 
 abbrev pub power_text : Bool → List ℕ
@@ -28,6 +28,12 @@ held_text h =
     ++ (codes " velocity=" ++ (signed_decimal h.velocity
     ++ (codes " target=" ++ target_text h.carried))))))
 
--- A drive, by its number.
+-- What the drive of a number holds.
 abbrev pub drive_text : ℕ → Held → List ℕ
-drive_text number h = codes "drive " ++ (decimal number ++ (codes " power=" ++ (power_text h.powered ++ (codes " " ++ held_text h))))
+drive_text number h =
+    codes "drive " ++ (decimal number
+    ++ (codes " power=" ++ (power_text h.powered
+    ++ (codes " trouble=" ++ (word_text h.trouble
+    ++ (codes " position=" ++ (signed_decimal h.position
+    ++ (codes " velocity=" ++ (signed_decimal h.velocity
+    ++ (codes " target=" ++ target_text h.carried))))))))))

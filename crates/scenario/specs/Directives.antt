@@ -3,6 +3,7 @@ use Rattle.std.specs.Prelude.{ℕ, cond, List, [], ◌∷◌, length, ℤ, pos, 
 use Rattle.std.specs.Str.{bytes_eq}
 use Rattle.drives.specs.declared.target.Target.{Target}
 use Rattle.drives.specs.Meaning.{DriveMeaning}
+use Rattle.text.specs.ByteTexts.{bytes_of}
 use Rattle.lines.specs.Lines.{words_of}
 use Rattle.scenario.specs.declared.directive.Operation.{Operation}
 use Rattle.scenario.specs.declared.directive.Operation.TheVariants as Operation
@@ -12,7 +13,7 @@ use Rattle.scenario.specs.declared.keyword.Verb.{Verb}
 use Rattle.scenario.specs.declared.keyword.Verb.TheVariants as Verb
 use Rattle.grammar.specs.declared.wrong.Wrong.{Wrong}
 use Rattle.grammar.specs.declared.wrong.Wrong.TheVariants.{RecordLength, UnknownDirective}
-use Rattle.grammar.specs.Grammar.{Words, Taken, and_then, unsigned_in, signed_in, bytes_in, ended}
+use Rattle.grammar.specs.Grammar.{Words, Taken, and_then, read_in, unsigned_in, signed_in, ended}
 use Rattle.scenario.specs.Makes.{value_in, make_in}
 
 -- What a directive asks for: one more drive, or an operation on the drive of a number.
@@ -41,7 +42,7 @@ mode_in ws = signed_in (negsuc 127) (pos 127) ws
 
 -- A field record: twelve bytes.
 unfoldable pub record_in : Words → Taken (List ℕ)
-record_in ws = and_then (bytes_in ws) (λ bytes rest. cond (length bytes == 12) (Ok (bytes, rest)) (Err RecordLength))
+record_in ws = and_then (read_in bytes_of ws) (λ bytes rest. cond (length bytes == 12) (Ok (bytes, rest)) (Err RecordLength))
 
 -- MODE VALUE
 unfoldable pub target_in : Words → Taken Target
