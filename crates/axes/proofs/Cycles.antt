@@ -46,32 +46,32 @@ module _ (bytes : List ℕ) (axis : Axis) (drives : List DriveMeaning) (i : ℕ)
   abbrev sampled_drives : List DriveMeaning
   sampled_drives = changed (sampled bytes) drives i
 
-  sampled-trouble : (drive_at sampled_drives i).held.trouble ≡ (sampled bytes (drive_at drives i)).held.trouble
-  sampled-trouble = seen_after (sampled bytes) drives i (λ drive. drive.held.trouble) refl
+  sampled_trouble : (drive_at sampled_drives i).held.trouble ≡ (sampled bytes (drive_at drives i)).held.trouble
+  sampled_trouble = seen_after (sampled bytes) drives i (λ drive. drive.held.trouble) refl
 
-  moved-drive : (from : State) (move : Option State) → changed (after_move from move) sampled_drives i ≡ changed (λ drive. after_move from move (sampled bytes drive)) drives i
-  moved-drive from move = changed_twice (sampled bytes) drives i (after_move from move)
+  moved_drive : (from : State) (move : Option State) → changed (after_move from move) sampled_drives i ≡ changed (λ drive. after_move from move (sampled bytes drive)) drives i
+  moved_drive from move = changed_twice (sampled bytes) drives i (after_move from move)
 
-  acting-axis : (part : Part) (was_enabled : Bool) (from : State) (move : Option State) (after : Axis) → acted part was_enabled (drive_at (changed (after_move from move) sampled_drives i) i) after ≡ acted part was_enabled (after_move from move (sampled bytes (drive_at drives i))) after
-  acting-axis part was_enabled from move after =
-      ap (λ (ds : List DriveMeaning). acted part was_enabled (drive_at ds i) after) (moved-drive from move)
+  acting_axis : (part : Part) (was_enabled : Bool) (from : State) (move : Option State) (after : Axis) → acted part was_enabled (drive_at (changed (after_move from move) sampled_drives i) i) after ≡ acted part was_enabled (after_move from move (sampled bytes (drive_at drives i))) after
+  acting_axis part was_enabled from move after =
+      ap (λ (ds : List DriveMeaning). acted part was_enabled (drive_at ds i) after) (moved_drive from move)
       ∙ seen_after (λ drive. after_move from move (sampled bytes drive)) drives i (λ drive. acted part was_enabled drive after)
       (acted_like part was_enabled after (after_move from move (sampled bytes absent)) (after_make from move (sampled bytes absent)))
 
-  acting-drive : (part : Part) (was_enabled : Bool) (from : State) (move : Option State) (after : Axis) → changed (acted_drive part was_enabled after) (changed (after_move from move) sampled_drives i) i ≡ set drives i (acted_drive part was_enabled after (after_move from move (sampled bytes (drive_at drives i))))
-  acting-drive part was_enabled from move after =
-      ap (λ (ds : List DriveMeaning). changed (acted_drive part was_enabled after) ds i) (moved-drive from move)
+  acting_drive : (part : Part) (was_enabled : Bool) (from : State) (move : Option State) (after : Axis) → changed (acted_drive part was_enabled after) (changed (after_move from move) sampled_drives i) i ≡ set drives i (acted_drive part was_enabled after (after_move from move (sampled bytes (drive_at drives i))))
+  acting_drive part was_enabled from move after =
+      ap (λ (ds : List DriveMeaning). changed (acted_drive part was_enabled after) ds i) (moved_drive from move)
       ∙ changed_twice (λ drive. after_move from move (sampled bytes drive)) drives i (acted_drive part was_enabled after)
 
-  heeding-axis : (line : Line) (was_enabled : Bool) (from : State) (move : Option State) (after : Axis) → heeded line was_enabled (drive_at (changed (after_move from move) sampled_drives i) i) after ≡ heeded line was_enabled (after_move from move (sampled bytes (drive_at drives i))) after
-  heeding-axis (Acts part) was_enabled from move after = acting-axis part was_enabled from move after
-  heeding-axis RunsOut was_enabled from move after = refl
-  heeding-axis Quiet was_enabled from move after = refl
+  heeding_axis : (line : Line) (was_enabled : Bool) (from : State) (move : Option State) (after : Axis) → heeded line was_enabled (drive_at (changed (after_move from move) sampled_drives i) i) after ≡ heeded line was_enabled (after_move from move (sampled bytes (drive_at drives i))) after
+  heeding_axis (Acts part) was_enabled from move after = acting_axis part was_enabled from move after
+  heeding_axis RunsOut was_enabled from move after = refl
+  heeding_axis Quiet was_enabled from move after = refl
 
-  heeding-drive : (line : Line) (was_enabled : Bool) (from : State) (move : Option State) (after : Axis) → changed (heeded_drive line was_enabled after) (changed (after_move from move) sampled_drives i) i ≡ set drives i (heeded_drive line was_enabled after (after_move from move (sampled bytes (drive_at drives i))))
-  heeding-drive (Acts part) was_enabled from move after = acting-drive part was_enabled from move after
-  heeding-drive RunsOut was_enabled from move after = unchanged (changed (after_move from move) sampled_drives i) i ∙ moved-drive from move
-  heeding-drive Quiet was_enabled from move after = unchanged (changed (after_move from move) sampled_drives i) i ∙ moved-drive from move
+  heeding_drive : (line : Line) (was_enabled : Bool) (from : State) (move : Option State) (after : Axis) → changed (heeded_drive line was_enabled after) (changed (after_move from move) sampled_drives i) i ≡ set drives i (heeded_drive line was_enabled after (after_move from move (sampled bytes (drive_at drives i))))
+  heeding_drive (Acts part) was_enabled from move after = acting_drive part was_enabled from move after
+  heeding_drive RunsOut was_enabled from move after = unchanged (changed (after_move from move) sampled_drives i) i ∙ moved_drive from move
+  heeding_drive Quiet was_enabled from move after = unchanged (changed (after_move from move) sampled_drives i) i ∙ moved_drive from move
 
   -- what the steps of a cycle come to, from the sample to the move
   module _ (line : Line) (trouble : ℕ) (move : Option State) (once : Axis) (first second : List DriveMeaning) (samples : first ≡ sampled_drives) (told : trouble ≡ (drive_at first i).held.trouble) (decides : move ≡ cycle_move line trouble axis) (moves : once ≡ moved (stop_cause trouble) move axis) (enters : second ≡ changed (after_move axis.state move) first i) where
@@ -84,5 +84,5 @@ module _ (bytes : List ℕ) (axis : Axis) (drives : List DriveMeaning) (i : ℕ)
     cycle_steps was_enabled after third was noting driving =
         let brought : Option State = cycle_move line seen_trouble axis in
         let then : Axis = moved (stop_cause seen_trouble) brought axis in
-        rw (noting, driving, enters, moves, decides, told, samples, was, sampled-trouble)
-        (heeding-axis line (is_enabled axis.state) axis.state brought then, heeding-drive line (is_enabled axis.state) axis.state brought then)
+        rw (noting, driving, enters, moves, decides, told, samples, was, sampled_trouble)
+        (heeding_axis line (is_enabled axis.state) axis.state brought then, heeding_drive line (is_enabled axis.state) axis.state brought then)

@@ -37,8 +37,8 @@ module _ (brings : ℕ → Event) (before now after : Standing) (i : ℕ) (steps
       ap (λ axes. axis_at axes i) steps.axes_step
       ∙ first_reads (axis_step brings before.axes before.drives) before.axes i axis_at_start (an_axis in_table)
 
-  drive-reads : drive_at now.drives i ≡ drive_at before.drives i
-  drive-reads =
+  drive_reads : drive_at now.drives i ≡ drive_at before.drives i
+  drive_reads =
       ap (λ drives. drive_at drives i) steps.drives_step
       ∙ first_reads (drive_step brings before.axes before.drives) before.drives i absent a-drive
 
@@ -52,13 +52,13 @@ module _ (brings : ℕ → Event) (before now after : Standing) (i : ℕ) (steps
         axes_step =
             one.axis_steps
             ∙ ap (λ a. set now.axes i (axis_under (brings i) a (drive_at now.drives i))) same-axis
-            ∙ ap (λ d. set now.axes i (axis_under (brings i) (axis_at before.axes i) d)) drive-reads
+            ∙ ap (λ d. set now.axes i (axis_under (brings i) (axis_at before.axes i) d)) drive_reads
             ∙ ap (λ rest. set rest i (axis_step brings before.axes before.drives i)) steps.axes_step
             ∙ first_more (axis_step brings before.axes before.drives) before.axes i axis_at_start (an_axis one.in_table);
         drives_step =
             one.drive_steps
             ∙ ap (λ a. set now.drives i (drive_under (brings i) a (drive_at now.drives i))) same-axis
-            ∙ ap (λ d. set now.drives i (drive_under (brings i) (axis_at before.axes i) d)) drive-reads
+            ∙ ap (λ d. set now.drives i (drive_under (brings i) (axis_at before.axes i) d)) drive_reads
             ∙ ap (λ rest. set rest i (drive_step brings before.axes before.drives i)) steps.drives_step
             ∙ first_more (drive_step brings before.axes before.drives) before.drives i absent a-drive;
       }

@@ -8,13 +8,13 @@ use Rattle.grammar.specs.Grammar.{Words, Taken, word_in, bytes_in, UnlessNoMemor
 use Rattle.grammar.proofs.NextWord.{read_found}
 
 module _ (ws : Words) (w : List ℕ) (rest : Words) (e : ◌≡◌ {A = Taken (List ℕ)} (Ok (w, rest)) (word_in ws)) where
-  of-fault : (fault : Fault) → Err fault ≡ bytes_of w → Err (Word fault) ≡ bytes_in ws
-  of-fault fault is = read_found bytes_of ws w rest (Err fault) e is
+  of_fault : (fault : Fault) → Err fault ≡ bytes_of w → Err (Word fault) ≡ bytes_in ws
+  of_fault fault is = read_found bytes_of ws w rest (Err fault) e is
 
   -- memory may be wanting where the bytes are good
   pub bytes_wrong : (fault : Fault) → Err fault ≡ or_no_memory (is_no_memory fault) (bytes_of w) → UnlessNoMemory {X = List ℕ × Words} (Err (Word fault)) (bytes_in ws)
-  bytes_wrong NotANumber is = inr (of-fault NotANumber is)
-  bytes_wrong OutOfRange is = inr (of-fault OutOfRange is)
-  bytes_wrong NotBytes is = inr (of-fault NotBytes is)
-  bytes_wrong OddDigits is = inr (of-fault OddDigits is)
+  bytes_wrong NotANumber is = inr (of_fault NotANumber is)
+  bytes_wrong OutOfRange is = inr (of_fault OutOfRange is)
+  bytes_wrong NotBytes is = inr (of_fault NotBytes is)
+  bytes_wrong OddDigits is = inr (of_fault OddDigits is)
   bytes_wrong NoMemory is = inl refl

@@ -53,17 +53,17 @@ module _ (whole : Taken DriveMeaning) (outer : List Limits) (ws : Words) (still 
   no_name wrong e = (rw (← e) refl) ∙ (more whole outer ws still).2
 
   module _ (name : List ℕ) (r : Words) (e : ◌≡◌ {A = Taken (List ℕ)} (Ok (name, r)) (word_in ws)) where
-    after-window :
+    after_window :
         (n : ℕ) → bytes_eq name (codes "window") ≡ true
         → and_then (limits_in r) (λ limits s. make_under n (limits ∷ outer) s) ≡ make_under (suc n) outer ws
     unfolding make_under
-    after-window n is-window = rw (← e, is-window) refl
+    after_window n is-window = rw (← e, is-window) refl
 
-    after-name :
+    after_name :
         (n : ℕ) → bytes_eq name (codes "window") ≡ false
         → and_then (named_in name r) (λ drive s. Ok (enclosed drive outer, s)) ≡ make_under (suc n) outer ws
     unfolding make_under
-    after-name n is-make = rw (← e, is-make) refl
+    after_name n is-make = rw (← e, is-make) refl
 
     -- one window more has been read
     pub window_read :
@@ -74,18 +74,18 @@ module _ (whole : Taken DriveMeaning) (outer : List Limits) (ws : Words) (still 
         record {
           windows = m.0;
           enough = omega (arith, limits_shorter r limits s e', m.1, ap length (found ws name r e));
-          same = (rw (← e') at (after-window m.0 is-window)) ∙ m.2;
+          same = (rw (← e') at (after_window m.0 is-window)) ∙ m.2;
         }
 
     pub wrong_limits : (wrong : Wrong) → bytes_eq name (codes "window") ≡ true → Err wrong ≡ limits_in r → Err wrong ≡ whole
     wrong_limits wrong is-window e' =
         let m = more whole outer ws still in
-        (rw (← e') at (after-window m.0 is-window)) ∙ m.2
+        (rw (← e') at (after_window m.0 is-window)) ∙ m.2
 
     pub wrong_make : (wrong : Wrong) → bytes_eq name (codes "window") ≡ false → Err wrong ≡ named_in name r → Err wrong ≡ whole
     wrong_make wrong is-make e' =
         let m = more whole outer ws still in
-        (rw (← e') at (after-name m.0 is-make)) ∙ m.2
+        (rw (← e') at (after_name m.0 is-make)) ∙ m.2
 
     pub make_read :
         (drive : DriveMeaning) (s : Words) → bytes_eq name (codes "window") ≡ false
@@ -93,7 +93,7 @@ module _ (whole : Taken DriveMeaning) (outer : List Limits) (ws : Words) (still 
         → ◌≡◌ {A = Taken DriveMeaning} (Ok (enclosed drive outer, s)) whole
     make_read drive s is-make e' =
         let m = more whole outer ws still in
-        (rw (← e') at (after-name m.0 is-make)) ∙ m.2
+        (rw (← e') at (after_name m.0 is-make)) ∙ m.2
 
     -- a turn takes words away
     pub turn_shorter : (limits : Limits) (s : Words) → ◌≡◌ {A = Taken Limits} (Ok (limits, s)) (limits_in r) → length s < length ws

@@ -45,16 +45,16 @@ module _ (target : Target) where
   admission_gathered drive [] = refl
   admission_gathered drive (w ∷ ws) = admission_gathered (windowed w drive) ws
 
-  none-under : (out : Bool) (r : Refusal) (below : Option Refusal) → cond out (Some r) (option_map deepened below) ≡ None → below ≡ None
-  none-under true r below e = cc
-  none-under false r None e = refl
-  none-under false r (Some x) e = cc
+  none_under : (out : Bool) (r : Refusal) (below : Option Refusal) → cond out (Some r) (option_map deepened below) ≡ None → below ≡ None
+  none_under true r below e = cc
+  none_under false r None e = refl
+  none_under false r (Some x) e = cc
 
   -- what no window refuses and the drive does not refuse
   none_below : (drive : DriveMeaning) (windows : List Limits) → refused_by target (enclosed drive windows) ≡ None → refused_by target drive ≡ None
   none_below drive [] free = free
   none_below drive (w ∷ ws) free =
-      none-under (keeps_out w drive.held.position target) _ (refused_by target drive) (none_below (windowed w drive) ws free)
+      none_under (keeps_out w drive.held.position target) _ (refused_by target drive) (none_below (windowed w drive) ws free)
 
   carrying : DriveMeaning → DriveMeaning
   carrying drive = now_holding (driven drive.held.powered (Some target) drive.held) drive

@@ -1,5 +1,5 @@
 -- The value of a digit.
-use Rattle.std.specs.Prelude.{ℕ, ◌-◌, Bool, cond, ◌&&◌, Some, None, Option, nat_le}
+use Rattle.std.specs.Prelude.{ℕ, ◌-◌, cond, ◌&&◌, Some, None, Option, nat_le}
 
 -- 0 to 9, a to f, A to F; no other byte is a digit.
 abbrev pub digit_of : ℕ → Option ℕ

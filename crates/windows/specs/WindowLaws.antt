@@ -34,12 +34,12 @@ window_lawful limits below law =
 
 -- What the drive below makes of a target that the limits let pass, seen through the window.
 module _ (limits : Limits) (target : Target) (below : DriveMeaning) (passes : keeps_out limits below.held.position target ≡ false) where
-  passed-refusal : refused_by target (windowed limits below) ≡ option_map deepened (refused_by target below)
-  passed-refusal = rw passes refl
+  passed_refusal : refused_by target (windowed limits below) ≡ option_map deepened (refused_by target below)
+  passed_refusal = rw passes refl
 
   -- it carries what the drive below carries
   pub passed_carries : (after : DriveMeaning) → after ≡ taken target below → windowed limits after ≡ taken target (windowed limits below)
-  passed_carries after e = rw (e, passed-refusal) (go (refused_by target below))
+  passed_carries after e = rw (e, passed_refusal) (go (refused_by target below))
     where
       go :
           (r : Option Refusal)
@@ -49,14 +49,14 @@ module _ (limits : Limits) (target : Target) (below : DriveMeaning) (passes : ke
       go (Some r) = refl
 
   pub passed_taken : Ok tt ≡ take_answer target below → Ok tt ≡ take_answer target (windowed limits below)
-  passed_taken e = rw passed-refusal (go (refused_by target below) e)
+  passed_taken e = rw passed_refusal (go (refused_by target below) e)
     where
       go : (r : Option Refusal) → Ok tt ≡ answered r → Ok tt ≡ answered (option_map deepened r)
       go None e' = refl
       go (Some r) e' = cc
 
   pub passed_refused : (r : Refusal) → Err r ≡ take_answer target below → Err (deepened r) ≡ take_answer target (windowed limits below)
-  passed_refused r e = rw passed-refusal (go (refused_by target below) e)
+  passed_refused r e = rw passed_refusal (go (refused_by target below) e)
     where
       go : (o : Option Refusal) → Err r ≡ answered o → Err (deepened r) ≡ answered (option_map deepened o)
       go None e' = cc
