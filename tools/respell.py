@@ -278,7 +278,7 @@ naturalOf natural_of
 neededLengths needed_lengths
 negative-is negative_is
 negative-not negative_not
-next-part next_part
+next-part next_part_lem
 nextPart next_part
 no-digit-here no_digit_here
 no-run-out no_run_out

@@ -1,6 +1,6 @@
 -- One drive of a bank changed and looked at again.
-use Rattle.std.proofs.Common.{◌≡◌, ℕ, ◌<◌, ◌≤◌, ◌⊎◌, List, length, set, sym, refl, ap, ◌∙◌, inl, inr, arith}
-use Rattle.std.proofs.lemmas.List.{get_or-set_same, get_or_past, length-set, set-get_or, set-set, set_past}
+use Rattle.std.proofs.Common.{◌≡◌, ℕ, ◌<◌, ◌≤◌, ◌⊎◌, List, length, set, sym, ap, ◌∙◌, inl, inr, arith}
+use Rattle.std.proofs.lemmas.List.{get_or-set_same, get_or_past, set-get_or, set-set, set_past}
 use Rattle.drives.specs.Meaning.{DriveMeaning}
 use Rattle.banks.specs.Lists.{absent, drive_at, changed}
 

@@ -1,5 +1,5 @@
 -- A cycle of an axis: the drive samples, moves with the axis and acts on a part, beyond the bank too.
-use Rattle.std.proofs.Common.{◌≡◌, ℕ, Bool, true, false, cond, not, ◌&&◌, List, set, ℤ, Some, None, Option, sym, refl, ap, ◌∙◌}
+use Rattle.std.proofs.Common.{◌≡◌, ℕ, Bool, true, false, cond, not, ◌&&◌, List, set, ℤ, Some, None, Option, refl, ap, ◌∙◌}
 use Rattle.drives.specs.declared.target.Target.{Target}
 use Rattle.drives.specs.Meaning.{DriveMeaning, Make, energised, held_still, sampled}
 use Rattle.banks.specs.Lists.{absent, drive_at, changed}
@@ -10,7 +10,7 @@ use Rattle.axes.specs.declared.axis.Axis.{Axis}
 use Rattle.axes.specs.declared.axis.Line.{Line}
 use Rattle.axes.specs.declared.axis.Line.TheVariants.{Acts, RunsOut, Quiet}
 use Rattle.axes.specs.Moves.{entering, is_enabled, is_ready}
-use Rattle.axes.specs.Steps.{or_kept, displayed_by, noted, with_refusal, named_target, refusal_of, acted, acted_drive, after_move, moved, stop_cause, cycle_move, heeded, heeded_drive, Cycles, axis_under, drive_under}
+use Rattle.axes.specs.Steps.{or_kept, displayed_by, named_target, refusal_of, acted, acted_drive, after_move, moved, stop_cause, cycle_move, heeded, heeded_drive, Cycles, axis_under, drive_under}
 use Rattle.axes.proofs.Changes.{unchanged, seen_after, changed_twice}
 
 -- a move leaves the make of the drive alone

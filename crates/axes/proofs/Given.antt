@@ -1,5 +1,5 @@
 -- A drive that refuses a target and then holds.
-use Rattle.std.proofs.Common.{◌≡◌, ℕ, List, set, Some, None, Err, Option, sym, refl, ap, ◌∙◌}
+use Rattle.std.proofs.Common.{◌≡◌, ℕ, List, set, Some, None, Err, Option, refl, ap, ◌∙◌}
 use Rattle.drives.specs.declared.target.Refusal.{Refusal}
 use Rattle.drives.specs.declared.target.Target.{Target}
 use Rattle.drives.specs.Holdings.{answered, taken_held}

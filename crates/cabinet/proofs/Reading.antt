@@ -24,8 +24,8 @@ read_none RunOut frame axes rest is = tt
 read_none Nothing frame axes rest is = tt
 
 module _ (frame : List ℕ) (axes : List Axis) (i n : ℕ) (below : i < n) (within : i < length axes) where
-  next_part : parts_before axes (i + 1) ≡ parts_before axes i + part_length (axis_at axes i).layout
-  next_part = sum_by_more (λ (axis : Axis). part_length axis.layout) axes i axis_at_start within
+  next_part_lem : parts_before axes (i + 1) ≡ parts_before axes i + part_length (axis_at axes i).layout
+  next_part_lem = sum_by_more (λ (axis : Axis). part_length axis.layout) axes i axis_at_start within
 
   parts_grow : parts_before axes (i + 1) ≤ parts_before axes n
   parts_grow =
@@ -36,7 +36,7 @@ module _ (frame : List ℕ) (axes : List Axis) (i n : ℕ) (below : i < n) (with
   whole : length frame ≡ parts_before axes n → has_part (axis_at axes i).layout (drop (parts_before axes i) frame) ≡ true
   whole all =
       le-leb (part_length (axis_at axes i).layout) (length (drop (parts_before axes i) frame))
-      (simp length-drop (omega (arith, all, next_part, parts_grow)))
+      (simp length-drop (omega (arith, all, next_part_lem, parts_grow)))
 
   pub read_line : (heard : Heard) (rest : List ℕ) → WholeFrame heard frame axes n → ReaderAt heard frame axes i rest → line_read heard (axis_at axes i).layout rest ≡ line_for heard frame axes i
   read_line Frame rest all here = rw (here, whole all) refl
@@ -44,7 +44,7 @@ module _ (frame : List ℕ) (axes : List Axis) (i n : ℕ) (below : i < n) (with
   read_line Nothing rest all here = refl
 
   pub read_rest : (heard : Heard) (rest : List ℕ) → WholeFrame heard frame axes n → ReaderAt heard frame axes i rest → ReaderAt heard frame axes (i + 1) (rest_read heard (axis_at axes i).layout rest)
-  read_rest Frame rest all here = rw (here, whole all, next_part) (drop-drop (part_length (axis_at axes i).layout) (parts_before axes i) frame)
+  read_rest Frame rest all here = rw (here, whole all, next_part_lem) (drop-drop (part_length (axis_at axes i).layout) (parts_before axes i) frame)
   read_rest RunOut rest all here = tt
   read_rest Nothing rest all here = tt
 

@@ -1,5 +1,5 @@
 -- What a line of the cabinet part says.
-use Rattle.std.specs.Prelude.{ℕ, cond, List, [], ◌∷◌, Some, None, Ok, Err, codes, Option, Result}
+use Rattle.std.specs.Prelude.{ℕ, cond, List, [], ◌∷◌, Some, None, Ok, codes, Option, Result}
 use Rattle.std.specs.Str.{bytes_eq}
 use Rattle.lines.specs.Lines.{words_of}
 use Rattle.grammar.specs.declared.wrong.Wrong.{Wrong}
@@ -7,9 +7,7 @@ use Rattle.grammar.specs.Grammar.{Words, Taken, and_then, unsigned_in, bytes_in,
 use Rattle.calls.specs.declared.call.AlRequest.{AlRequest}
 use Rattle.calls.specs.declared.directive.Build.{Build}
 use Rattle.calls.specs.declared.keyword.CallName.{CallName}
-use Rattle.calls.specs.declared.keyword.CallName.TheVariants as CallName
 use Rattle.calls.specs.declared.keyword.Keyword.{Keyword}
-use Rattle.calls.specs.declared.keyword.Keyword.TheVariants as Keyword
 
 -- What a cycle is given: a frame, which is empty where none came, the field records, and the length of the return image.
 pub record AskedCycle : Type 0 where

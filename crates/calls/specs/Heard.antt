@@ -1,10 +1,8 @@
 -- What the code took from a line, as what the line says.
 use Rattle.std.specs.Prelude.{vec_items}
 use Rattle.calls.specs.declared.call.Call.{Call}
-use Rattle.calls.specs.declared.call.Call.TheVariants as Call
 use Rattle.calls.specs.declared.call.Cycle.{Cycle}
 use Rattle.calls.specs.declared.directive.CabinetDirective.{CabinetDirective}
-use Rattle.calls.specs.declared.directive.CabinetDirective.TheVariants as CabinetDirective
 use Rattle.calls.specs.Calls.{AskedCycle, Asked, Requests, Cycles, CabinetSaid, Builds, Asks}
 
 abbrev pub cycle_asks : Cycle → AskedCycle

@@ -1,5 +1,5 @@
 -- The signed product of a cylinder's position fits 32 bits.
-use Rattle.std.proofs.Common.{◌≡◌, ℕ, zero, suc, ◌*◌, ◌<◌, ◌≤◌, ℤ, pos, negsuc, ◌*ℤ◌, neg_ℤ, nat_abs, arith, w32, SFits}
+use Rattle.std.proofs.Common.{ℕ, zero, suc, ◌*◌, ◌≤◌, ℤ, pos, negsuc, ◌*ℤ◌, neg_ℤ, nat_abs, arith, w32, SFits}
 use lib.Signed.{mag}
 use Rattle.std.proofs.lemmas.Nat.{mul-le}
 

@@ -1,5 +1,5 @@
 -- A make that stands alone owes little: the rest follows from the order of its checks.
-use Rattle.std.proofs.Common.{◌≡◌, ℕ, Bool, true, false, not, ◌&&◌, eqb, List, ℤ, pos, is_some, refl, arith}
+use Rattle.std.proofs.Common.{◌≡◌, ℕ, Bool, true, false, not, ◌&&◌, eqb, List, ℤ, pos, is_some, arith}
 use Rattle.drives.specs.declared.target.Target.{Target}
 use Rattle.drives.specs.declared.held.Held.{Held}
 use Rattle.drives.specs.Holdings.{Reading, own_refusal}

@@ -1,5 +1,5 @@
 -- The end of a line.
-use Rattle.std.proofs.Common.{◌≡◌, List, [], ◌∷◌, Ok, Err, Result, refl}
+use Rattle.std.proofs.Common.{◌≡◌, [], ◌∷◌, Ok, Err, Result, refl}
 use Rattle.grammar.specs.declared.wrong.Wrong.{Wrong}
 use Rattle.grammar.specs.Grammar.{Words, ended}
 

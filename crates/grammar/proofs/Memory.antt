@@ -1,5 +1,5 @@
 -- One step after the other, where memory may be wanting at each.
-use Rattle.std.proofs.Common.{◌≡◌, ℕ, ◌⊎◌, Ok, Err, Result, refl, ap, inl, inr, arith}
+use Rattle.std.proofs.Common.{◌≡◌, ℕ, Ok, Err, Result, refl, ap, inl, inr, arith}
 use Rattle.text.specs.declared.fault.Fault.TheVariants.{NoMemory}
 use Rattle.grammar.specs.declared.wrong.Wrong.{Wrong}
 use Rattle.grammar.specs.declared.wrong.Wrong.TheVariants.{Word}

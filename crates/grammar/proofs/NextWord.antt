@@ -1,11 +1,10 @@
 -- What the next word comes to.
-use Rattle.std.proofs.Common.{◌≡◌, ℕ, ◌<◌, ◌≤◌, List, [], ◌∷◌, length, ℤ, ◌≤ℤ◌, Some, None, Ok, Err, Option, Result, sym, refl, ap, ◌∙◌, arith}
+use Rattle.std.proofs.Common.{◌≡◌, ℕ, ◌<◌, ◌≤◌, List, [], ◌∷◌, length, ℤ, ◌≤ℤ◌, Some, None, Ok, Err, Option, Result, sym, ap, arith}
 use Rattle.std.proofs.lemmas.Int.{ints}
 use Rattle.std.proofs.lemmas.Bool.Decides.{nat_tests}
 use Rattle.text.specs.declared.fault.Fault.{Fault}
 use Rattle.text.specs.Numerals.{natural_of, integer_of, up_to, within, unsigned_of, signed_of}
 use Rattle.grammar.specs.declared.wrong.Wrong.{Wrong}
-use Rattle.grammar.specs.declared.wrong.Wrong.TheVariants.{MissingWord}
 use Rattle.grammar.specs.Grammar.{Words, leaving, or_wrong_word, word_in, read_in, unsigned_in, signed_in}
 
 -- a word that was found stands first

@@ -1,12 +1,12 @@
 -- Where a number of two banks side by side is found, what stands there and what a change there makes of the two.
-use Rattle.std.specs.Prelude.{◌≡◌, ℕ, zero, suc, ◌+◌, ◌-◌, ◌<◌, ◌≤◌, min, List, [], ◌∷◌, ◌++◌, length, get_or, take, set, refl}
+use Rattle.std.specs.Prelude.{◌≡◌, ℕ, ◌+◌, ◌-◌, ◌<◌, ◌≤◌, min, List, ◌++◌, length, take, refl}
 use Rattle.std.proofs.Common.{sym, ap, ◌∙◌, arith}
 use Rattle.std.proofs.ByRecursion.{All-append, All-take}
 use Rattle.std.proofs.lemmas.List.{length-append, length-take, get_or-take, get_or_append_left, get_or-append_right, get_or_past, set-append_left, set-append_right, set_past}
 use Rattle.drives.specs.Meaning.{DriveMeaning}
 use Rattle.banks.proofs.Cuts.{take-set}
 use Rattle.pairs.specs.declared.pair.Place.TheVariants.{First, Second}
-use Rattle.banks.specs.Lists.{most, absent, drive_at, changed, AllLawful}
+use Rattle.banks.specs.Lists.{most, absent, drive_at, AllLawful}
 use Rattle.pairs.specs.Pairs.{side_by_side, FoundAt}
 
 module _ (first second : List DriveMeaning) (few : length first ≤ most) (i : ℕ) where

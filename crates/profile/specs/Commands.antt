@@ -1,5 +1,5 @@
 -- The commands, and how a controlword gives one.
-use Rattle.std.specs.Prelude.{ℕ, ◌/◌, ◌%◌, Bool, cond, not, eqb}
+use Rattle.std.specs.Prelude.{ℕ, Bool, cond, not, eqb}
 use Rattle.std.specs.Int.Bits.{bit_and}
 use Rattle.profile.specs.declared.command.Command.{Command}
 use Rattle.profile.specs.declared.command.Command.TheVariants.{Shutdown, SwitchOn, EnableOperation, QuickStop, DisableVoltage}

@@ -4,7 +4,7 @@ use Rattle.std.proofs.Common.{sym, ap, ◌∙◌, arith}
 use Rattle.std.proofs.ByRecursion.{All-take}
 use Rattle.std.proofs.lemmas.List.{map-append, length-map, length-take, get_or-map, get_or-take, get_or_past, map-set, set_past}
 use Rattle.drives.specs.Meaning.{DriveMeaning, Lawful}
-use Rattle.banks.specs.Lists.{most, absent, drive_at, changed, AllLawful}
+use Rattle.banks.specs.Lists.{most, absent, drive_at, AllLawful}
 use Rattle.banks.proofs.Cuts.{take-set}
 use Rattle.rows.specs.Rows.{in_row, with_drive, AtPlace, Beyond}
 

@@ -1,5 +1,5 @@
 -- One window or the make itself, and what is left of the words.
-use Rattle.std.proofs.Common.{◌≡◌, ℕ, zero, suc, ◌+◌, ◌<◌, ◌≤◌, true, false, List, [], ◌∷◌, length, ℤ, Ok, Err, codes, sym, refl, ap, ◌∙◌, arith}
+use Rattle.std.proofs.Common.{◌≡◌, ℕ, zero, suc, ◌<◌, ◌≤◌, true, false, List, [], ◌∷◌, length, ℤ, Ok, Err, codes, sym, refl, ap, ◌∙◌, arith}
 use Rattle.std.specs.Str.{bytes_eq}
 use Rattle.drives.specs.Meaning.{DriveMeaning}
 use Rattle.windows.specs.declared.window.Limits.{Limits}

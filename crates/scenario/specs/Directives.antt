@@ -6,11 +6,8 @@ use Rattle.drives.specs.Meaning.{DriveMeaning}
 use Rattle.text.specs.ByteTexts.{bytes_of}
 use Rattle.lines.specs.Lines.{words_of}
 use Rattle.scenario.specs.declared.directive.Operation.{Operation}
-use Rattle.scenario.specs.declared.directive.Operation.TheVariants as Operation
 use Rattle.scenario.specs.declared.keyword.Keyword.{Keyword}
-use Rattle.scenario.specs.declared.keyword.Keyword.TheVariants as Keyword
 use Rattle.scenario.specs.declared.keyword.Verb.{Verb}
-use Rattle.scenario.specs.declared.keyword.Verb.TheVariants as Verb
 use Rattle.grammar.specs.declared.wrong.Wrong.{Wrong}
 use Rattle.grammar.specs.declared.wrong.Wrong.TheVariants.{RecordLength, UnknownDirective}
 use Rattle.grammar.specs.Grammar.{Words, Taken, and_then, read_in, unsigned_in, signed_in, ended}

@@ -1,5 +1,5 @@
 -- The drive that words describe: any number of windows, the outermost first, and then a make.
-use Rattle.std.specs.Prelude.{ℕ, zero, suc, cond, List, [], ◌∷◌, length, ℤ, pos, negsuc, Ok, Err, codes, Result}
+use Rattle.std.specs.Prelude.{ℕ, zero, suc, cond, List, [], ◌∷◌, length, ℤ, pos, negsuc, Ok, Err, codes}
 use Rattle.std.specs.Str.{bytes_eq}
 use Rattle.drives.specs.Holdings.{at_rest}
 use Rattle.drives.specs.Meaning.{DriveMeaning}
@@ -7,7 +7,6 @@ use Rattle.windows.specs.declared.window.Limits.{Limits}
 use Rattle.hoists.specs.Hoists.{hoist_meaning}
 use Rattle.cylinders.specs.Cylinders.{cylinder_meaning, scale_in_range}
 use Rattle.stacks.specs.Enclosures.{enclosed}
-use Rattle.grammar.specs.declared.wrong.Wrong.{Wrong}
 use Rattle.grammar.specs.declared.wrong.Wrong.TheVariants.{UnknownMake, MissingWord}
 use Rattle.grammar.specs.Grammar.{Words, Taken, and_then, word_in, unsigned_in, signed_in}
 

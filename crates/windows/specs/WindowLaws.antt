@@ -1,6 +1,6 @@
 -- A window keeps what the drive below it owes.
 use Rattle.std.specs.Prelude.{◌≡◌, Bool, true, false, cond, not, ◌&&◌, is_some, Some, None, Ok, Err, Option, refl}
-use Rattle.std.proofs.Common.{ap, arith}
+use Rattle.std.proofs.Common.{ap}
 use Rattle.std.proofs.lemmas.Bool.{and_parts}
 use Rattle.std.specs.Option.{option_map}
 use Rattle.drives.specs.declared.target.Refusal.{Refusal}
@@ -8,8 +8,8 @@ use Rattle.windows.specs.declared.window.Limits.{Limits}
 use Rattle.drives.specs.Refusals.{deepened}
 use Rattle.drives.specs.declared.target.Target.{Target}
 use Rattle.drives.specs.Holdings.{taken_held, answered}
-use Rattle.drives.specs.Meaning.{Make, Lawful, DriveMeaning, now_holding, fit_to_take, taken, take_answer, refused_by}
-use Rattle.windows.specs.Windows.{keeps_out, refusal_above, window_make, windowed}
+use Rattle.drives.specs.Meaning.{Make, Lawful, DriveMeaning, now_holding, taken, take_answer, refused_by}
+use Rattle.windows.specs.Windows.{keeps_out, window_make, windowed}
 
 -- with the limits above, a target is refused that they keep out or that is refused below
 refused_above :

@@ -1,10 +1,9 @@
 -- Windows. A window has a low and a high position over any drive, and is itself a drive.
-use Rattle.std.specs.Prelude.{Bool, cond, not, ◌&&◌, ◌||◌, List, ℤ, pos, Option, int_le, int_lt}
+use Rattle.std.specs.Prelude.{Bool, cond, not, ◌&&◌, ◌||◌, ℤ, pos, Option, int_le, int_lt}
 use Rattle.std.specs.Option.{option_map}
 use Rattle.drives.specs.declared.target.Target.{Target}
 use Rattle.drives.specs.declared.target.Cause.TheVariants.{Window}
 use Rattle.drives.specs.declared.target.Refusal.{Refusal}
-use Rattle.drives.specs.declared.held.Held.{Held}
 use Rattle.windows.specs.declared.window.Limits.{Limits}
 use Rattle.drives.specs.Refusals.{deepened}
 use Rattle.drives.specs.Holdings.{refusal_for}

@@ -1,5 +1,5 @@
-use Rattle.std.proofs.Common.{◌≡◌, Some, Err, sym, ap, ◌∙◌}
-use Rattle.drives.specs.Meaning.{taken, held_still, take_answer}
+use Rattle.std.proofs.Common.{◌≡◌, Err, sym, ap, ◌∙◌}
+use Rattle.drives.specs.Meaning.{held_still, take_answer}
 use Rattle.banks.specs.Lists.{drive_at, changed}
 use Rattle.axes.proofs.Given.{refusal_told, held_after_refusal}
 use Rattle.axes.proofs.axis.give.Goals as goal

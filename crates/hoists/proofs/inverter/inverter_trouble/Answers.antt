@@ -1,4 +1,4 @@
-use Rattle.std.proofs.Common.{◌≡◌, get_or, sym, ◌∙◌, rules}
+use Rattle.std.proofs.Common.{◌≡◌, get_or, ◌∙◌, rules}
 use lib.Count.{count_trailing_zeros}
 use Rattle.hoists.specs.Inverters.{inverter_codes}
 use Rattle.hoists.proofs.LowestBit.{named_at, lowest_names}

@@ -1,4 +1,4 @@
-use Rattle.std.proofs.Common.{Ok, Err, refl, inr}
+use Rattle.std.proofs.Common.{Ok, refl, inr}
 use Rattle.std.proofs.lemmas.Result.{err_from_is_err_and}
 use Rattle.lines.specs.Lines.{words_left}
 use Rattle.grammar.specs.Grammar.{Words, and_then}

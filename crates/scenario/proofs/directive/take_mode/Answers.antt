@@ -1,4 +1,4 @@
-use Rattle.std.proofs.Common.{pos, negsuc, w8, w32, SFits, rules}
+use Rattle.std.proofs.Common.{w8, w32, SFits, rules}
 use Rattle.std.proofs.lemmas.Int.{to_z-of_z}
 use Rattle.lines.specs.Lines.{words_left}
 use Rattle.scenario.proofs.Modes.{mode_fits}

@@ -1,4 +1,4 @@
-use Rattle.std.proofs.Common.{◌≡◌, true, false, List, [], ◌∷◌, ◌++◌, reverse, Ok, Err, vec_items, sym, ap, ◌∙◌, inl, inr}
+use Rattle.std.proofs.Common.{◌≡◌, [], ◌∷◌, reverse, Ok, vec_items, sym, ap, ◌∙◌, inr}
 use Rattle.std.proofs.lemmas.List.{reverse-append}
 use Rattle.std.proofs.lemmas.Result.{err_from_is_err_and}
 use Rattle.configured.specs.Makes.{make_is}
@@ -6,7 +6,7 @@ use Rattle.stacks.specs.Enclosures.{enclosed}
 use Rattle.lines.specs.Lines.{words_left}
 use Rattle.scenario.specs.Makes.{make_in}
 use Rattle.scenario.specs.Described.{stack_is}
-use Rattle.scenario.proofs.Turns.{Still, no_name, window_read, wrong_limits, wrong_make, make_read, turn_shorter}
+use Rattle.scenario.proofs.Turns.{no_name, window_read, wrong_limits, wrong_make, make_read, turn_shorter}
 use Rattle.scenario.proofs.make.take_drive.Goals as goal
 
 pub returns-in_err-name : goal.returns-in_err-name

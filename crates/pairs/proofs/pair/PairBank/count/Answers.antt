@@ -1,4 +1,4 @@
-use Rattle.std.proofs.Common.{◌∙◌, arith}
+use Rattle.std.proofs.Common.{arith}
 use Rattle.pairs.specs.FoundLemmas.{count-side_by_side}
 use Rattle.pairs.proofs.pair.PairBank.count.Goals as goal
 

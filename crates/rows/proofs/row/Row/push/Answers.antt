@@ -1,4 +1,4 @@
-use Rattle.std.proofs.Common.{vec_items, rules}
+use Rattle.std.proofs.Common.{vec_items}
 use Rattle.rows.specs.InRow.{row_pushed}
 use Rattle.rows.proofs.row.Row.push.Goals as goal
 

@@ -1,4 +1,4 @@
-use Rattle.std.proofs.Common.{vec_items, sym, refl, ap, ◌∙◌}
+use Rattle.std.proofs.Common.{vec_items, sym, ap, ◌∙◌}
 use Rattle.drives.specs.Holdings.{taken_held, answered}
 use Rattle.drives.specs.Meaning.{now_holding}
 use Rattle.stacks.specs.Enclosures.{enclosed}
