@@ -1,10 +1,10 @@
 -- A frame read axis by axis, and records cut into their arrays.
-use Rattle.std.proofs.Common.{◌≡◌, ℕ, zero, suc, ◌+◌, ◌-◌, ◌*◌, ◌<◌, ◌≤◌, true, cond, leb, List, length, get_or, take, drop, sum_by, sym, refl, ap, ◌∙◌, subst, mul-zero, mul-suc, arith}
+use Rattle.std.proofs.Common.{◌≡◌, ℕ, zero, suc, ◌+◌, ◌*◌, ◌<◌, ◌≤◌, true, List, length, get_or, take, drop, sum_by, refl, ap, ◌∙◌, subst, mul-zero, mul-suc, arith}
 use Rattle.std.specs.Simd.{first_chunks}
 use Rattle.std.proofs.lemmas.List.{drop-drop, length-drop, take-take}
 use Rattle.std.proofs.lemmas.List.Sums.{sum_by_more, sum_by-take-le}
 use Rattle.std.proofs.lemmas.Bool.{le-leb}
-use Rattle.fieldbus.specs.Frames.{part_length, next_part, after_part, has_part}
+use Rattle.fieldbus.specs.Frames.{part_length, has_part}
 use Rattle.axes.specs.declared.axis.Axis.{Axis}
 use Rattle.axes.specs.Steps.{axis_at_start}
 use Rattle.cabinet.specs.declared.cycle.Heard.{Heard}

@@ -10,6 +10,7 @@ use replay::stage::Replay;
 use std::env;
 use std::fs::File;
 use std::io::{BufRead, BufReader};
+use std::process::ExitCode;
 
 // The log is written in pieces of about this many bytes.
 const PIECE: usize = 8192;
@@ -66,10 +67,13 @@ fn run(rt: &HostRuntime) -> anyhow::Result<()> {
     }
 }
 
-fn main(rt: HostRuntime) -> anyhow::Result<()> {
-    let ended = run(&rt);
-    if let Err(error) = &ended {
-        eprintln!(rt; "{error}")?;
+fn main(rt: HostRuntime) -> ExitCode {
+    match run(&rt) {
+        Ok(()) => ExitCode::SUCCESS,
+        Err(error) => {
+            // The status tells of the error also where standard error takes nothing.
+            let _ = eprintln!(rt; "{error}");
+            ExitCode::FAILURE
+        }
     }
-    ended
 }

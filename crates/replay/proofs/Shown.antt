@@ -1,5 +1,5 @@
 -- A cycle that was carried out is shown.
-use Rattle.std.proofs.Common.{◌≡◌, ℕ, List, ◌++◌, length, codes, decimal, sym, refl, ap, ◌∙◌}
+use Rattle.std.proofs.Common.{◌≡◌, ℕ, List, ◌++◌, length, codes, decimal, refl, ap, ◌∙◌}
 use Rattle.fieldbus.specs.AlStates.{al_status}
 use Rattle.cabinet.specs.declared.cycle.CycleAnswer.{CycleAnswer}
 use Rattle.cabinet.specs.declared.cycle.CycleAnswer.TheVariants.{Accepted, RecordsLength, FrameLength, ImageLength}
@@ -10,7 +10,7 @@ use Rattle.cabinet_log.specs.AnswerTexts.{bytes_text, image_text, cycle_text}
 use Rattle.drive_log.specs.DriveTexts.{word_text}
 use Rattle.calls.specs.Calls.{AskedCycle, Cycles}
 use Rattle.replay.specs.declared.side.Side.{Side}
-use Rattle.replay.specs.Sides.{side_stands, image_length, answer_to, after_call, answer_shown, run_out_noted, CycleFollowed, AnswerShown}
+use Rattle.replay.specs.Sides.{side_stands, image_length, answer_to, after_call, run_out_noted, CycleFollowed, AnswerShown}
 
 image_shown : (answer : CycleAnswer) (written new old : List ℕ) → written ≡ unless_refused answer new old → image_text answer written ≡ image_text answer new
 image_shown Accepted written new old is = ap bytes_text is

@@ -1,5 +1,5 @@
 -- One cabinet that follows a scenario, and the lines that show its calls.
-use Rattle.std.specs.Prelude.{◌≡◌, ℕ, ◌*◌, Bool, cond, not, ◌&&◌, List, ◌++◌, length, Some, None, string_bytes, Option}
+use Rattle.std.specs.Prelude.{◌≡◌, ℕ, ◌*◌, cond, not, ◌&&◌, List, ◌++◌, length, Some, None, string_bytes, Option}
 use Rattle.drives.specs.Meaning.{DriveMeaning}
 use Rattle.fieldbus.specs.AlStates.{al_status, al_code}
 use Rattle.axes.specs.Steps.{or_else}

@@ -1,5 +1,5 @@
 -- What a line of a scenario makes of the bench, of one cabinet and of two, and of the log.
-use Rattle.std.specs.Prelude.{◌≡◌, ℕ, Bool, cond, ◌⊎◌, List, [], ◌∷◌, ◌++◌, Some, None, Ok, Err, string_bytes, codes, Option, Result}
+use Rattle.std.specs.Prelude.{◌≡◌, ℕ, Bool, cond, ◌⊎◌, List, [], ◌++◌, Some, None, Ok, string_bytes, codes, Option}
 use Rattle.std.specs.Str.{bytes_eq}
 use Rattle.text.specs.declared.fault.Fault.TheVariants.{NoMemory}
 use Rattle.grammar.specs.declared.wrong.Wrong.{Wrong}

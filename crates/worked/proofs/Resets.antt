@@ -1,5 +1,5 @@
 -- A fault, and bit 7.
-use Rattle.std.proofs.Common.{◌≡◌, ℕ, true, false, List, refl}
+use Rattle.std.proofs.Common.{◌≡◌, ℕ, false, List, refl}
 use Rattle.drives.specs.Meaning.{DriveMeaning, reading_of}
 use Rattle.fieldbus.specs.declared.frame.Part.{Part}
 use Rattle.profile.specs.declared.state.State.TheVariants.{SwitchOnDisabled, Fault}

@@ -1,4 +1,4 @@
-use Rattle.std.proofs.Common.{◌≡◌, ap, ◌∙◌, rules}
+use Rattle.std.proofs.Common.{◌≡◌, ap, rules}
 use Rattle.cabinet.specs.Cabinets.{Standing, standing}
 use Rattle.cabinet.specs.Requests.{after_request, answer_of}
 use Rattle.cabinet.proofs.cabinet.Cabinet.request.Goals as goal

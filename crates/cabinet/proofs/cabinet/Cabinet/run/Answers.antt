@@ -1,4 +1,4 @@
-use Rattle.std.proofs.Common.{◌≡◌, ℕ, ap, ◌∙◌, arith, rules}
+use Rattle.std.proofs.Common.{◌≡◌, ℕ, ap, ◌∙◌, rules}
 use Rattle.axes.specs.Steps.{Event}
 use Rattle.cabinet.specs.Cabinets.{Standing, standing, axis_count}
 use Rattle.cabinet.specs.Cycles.{cycle_brings, after_cycle}

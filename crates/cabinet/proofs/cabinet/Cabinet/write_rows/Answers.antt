@@ -1,4 +1,4 @@
-use Rattle.std.proofs.Common.{◌≡◌, ◌++◌, sym, ap, ◌∙◌, arith}
+use Rattle.std.proofs.Common.{◌++◌, sym, ap, ◌∙◌, arith}
 use Rattle.cabinet.specs.Cabinets.{standing}
 use Rattle.cabinet.proofs.Rows.{rows_none, row_written, rows_written}
 use Rattle.cabinet.proofs.cabinet.Cabinet.write_rows.Goals as goal

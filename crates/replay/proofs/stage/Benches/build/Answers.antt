@@ -1,4 +1,4 @@
-use Rattle.std.proofs.Common.{◌≡◌, refl, subst, rules}
+use Rattle.std.proofs.Common.{refl, subst, rules}
 use Rattle.rows.specs.declared.row.Row.{Row}
 use Rattle.stacks.specs.declared.stack.Stack.{Stack}
 use Rattle.configured.specs.declared.make.AnyMake.{AnyMake}

@@ -1,4 +1,4 @@
-use Rattle.std.proofs.Common.{◌≡◌, ℕ, List, ◌++◌, string_bytes, sym, ap, ◌∙◌, subst}
+use Rattle.std.proofs.Common.{ℕ, List, ◌++◌, string_bytes, sym, ap, ◌∙◌, subst}
 use Rattle.calls.specs.Heard.{call_asks}
 use Rattle.call_log.specs.CallTexts.{both_text}
 use Rattle.replay.specs.declared.side.Side.{Side}
