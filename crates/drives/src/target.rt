@@ -35,7 +35,7 @@ pub struct Refusal {
 }
 
 impl Refusal {
-    // The refusal as one number: depth times 256, plus the cause.
+    // The refusal as one number: depth times 256, plus the cause. A name says which number; `From` would not.
     pub fn code(self) -> u16
         ensures { result ≡ refusal_code self }
     {
@@ -47,8 +47,8 @@ impl Refusal {
         ensures { result ≡ deepened self }
     {
         Refusal {
-            cause: self.cause,
             depth: self.depth.saturating_add(1),
+            ..self
         }
     }
 }
