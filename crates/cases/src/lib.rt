@@ -5,13 +5,18 @@
 mod sides {
     use banks::bank::{Bank, de_energise_all};
     use cylinders::cylinder::Cylinder;
+    use cylinders::scale::Scale;
     use drives::drive::Drive;
     use drives::target::Target;
-    use hoists::hoist::Hoist;
+    use hoists::hoist::{Hoist, HoistMake};
     use pairs::pair::Pair;
     use std::process::Abort;
     use std::test::Fail;
     use windows::window::Window;
+
+    fn short_hoist() -> Hoist {
+        Hoist::new(HoistMake::new(0, 10, 1))
+    }
 
     // Whether each drive of a bank has power, by its number.
     fn check_power<B: Bank>(rt: &impl Abort, bank: &B, powered: &[bool]) {
@@ -23,8 +28,8 @@ mod sides {
 
     #[test]
     fn the_first_bank_is_numbered_first(rt: HostRuntime) {
-        let left = Pair::new(Hoist::new(0, 10, 1), Cylinder::new(1));
-        let mut bank = Pair::new(left, Window::new(0, 5, Hoist::new(0, 10, 1)));
+        let left = Pair::new(short_hoist(), Cylinder::new(Scale::new(1)));
+        let mut bank = Pair::new(left, Window::new(0, 5, short_hoist()));
         bank.energise_at(1);
         bank.energise_at(2);
         bank.energise_at(3);
@@ -51,7 +56,7 @@ mod sides {
 
     #[test]
     fn a_window_over_a_window_refuses_deeper(rt: HostRuntime) -> Result<(), Fail> {
-        let mut drive = Window::new(0, 30, Window::new(0, 20, Hoist::new(0, 10, 1)));
+        let mut drive = Window::new(0, 30, Window::new(0, 20, short_hoist()));
         drive.energise();
         for (value, code) in [(31, 0x0003), (21, 0x0103), (11, 0x0202)] {
             match drive.take(Target { mode: 8, value }) {

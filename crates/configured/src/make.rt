@@ -1,73 +1,48 @@
 // A make that is chosen at run time.
-ghost use Rattle.configured.specs.Makes.{make_is};
+ghost use Rattle.std.specs.Prelude.{refl};
+ghost use Rattle.configured.specs.Makes.{chosen_make};
 ghost use Rattle.hoists.specs.HoistLaws.{hoist_lawful};
 ghost use Rattle.cylinders.specs.CylinderLaws.{cylinder_lawful};
 ghost use Rattle.configured.specs.declared.make.AnyMake.TheVariants.{Hoist, Cylinder};
 
-use cylinders::cylinder::Cylinder;
-use drives::drive::{Drive, RECORD_LENGTH};
+use cylinders::scale::Scale;
+use drives::drive::RECORD_LENGTH;
 use drives::held::Held;
-use drives::target::{Refusal, Target};
-use hoists::hoist::Hoist;
+use drives::made::DriveMake;
+use drives::target::Target;
+use hoists::hoist::HoistMake;
 
-#[derive(Drop)]
+#[derive(Clone, Copy, Debug, PartialEq, Eq)]
 pub enum AnyMake {
-    Hoist(Hoist),
-    Cylinder(Cylinder),
+    Hoist(HoistMake),
+    Cylinder(Scale),
 }
 
-// Hands a call on to the drive that was chosen.
-macro_rules! chosen {
-    ($make:ident, $call:ident($($argument:expr),*)) => {
-        match $make {
-            AnyMake::Hoist(hoist) => hoist.$call($($argument),*),
-            AnyMake::Cylinder(cylinder) => cylinder.$call($($argument),*),
-        }
-    };
-}
+impl DriveMake for AnyMake {
+    ghost make = { chosen_make };
 
-impl Drive for AnyMake {
-    ghost meaning = { make_is };
+    ghost lawful = { elim [ Hoist make ↦ hoist_lawful _ _ _ | Cylinder scale ↦ cylinder_lawful _ ] };
 
-    ghost lawful = { elim [ Hoist hoist ↦ hoist_lawful _ _ _ | Cylinder cylinder ↦ cylinder_lawful _ ] };
-
-    fn energise(&mut self) {
-        chosen!(self, energise())
-    }
-
-    fn de_energise(&mut self) {
-        chosen!(self, de_energise())
-    }
-
-    fn hold(&mut self) {
-        chosen!(self, hold())
-    }
-
-    fn sample(&mut self, record: &[u8; RECORD_LENGTH]) {
-        chosen!(self, sample(record))
-    }
-
-    fn take(&mut self, target: Target) -> Result<(), Refusal> {
-        chosen!(self, take(target))
-    }
-
-    fn held(&self) -> Held {
-        chosen!(self, held())
-    }
+    ghost stands_alone = { elim [ Hoist make ↦ refl | Cylinder scale ↦ refl ] };
 
     fn knows(&self, mode: i8) -> bool {
-        chosen!(self, knows(mode))
+        match self {
+            AnyMake::Hoist(make) => make.knows(mode),
+            AnyMake::Cylinder(scale) => scale.knows(mode),
+        }
     }
 
-    fn admits(&self, target: Target) -> bool {
-        chosen!(self, admits(target))
+    fn admits(&self, position: i32, target: Target) -> bool {
+        match self {
+            AnyMake::Hoist(make) => make.admits(position, target),
+            AnyMake::Cylinder(scale) => scale.admits(position, target),
+        }
     }
 
-    fn refusal(&self, target: Target) -> Option<Refusal> {
-        chosen!(self, refusal(target))
-    }
-
-    fn reading(&self, record: &[u8; RECORD_LENGTH]) -> (u16, i32, i32) {
-        chosen!(self, reading(record))
+    fn reading(&self, held: Held, record: &[u8; RECORD_LENGTH]) -> (u16, i32, i32) {
+        match self {
+            AnyMake::Hoist(make) => make.reading(held, record),
+            AnyMake::Cylinder(scale) => scale.reading(held, record),
+        }
     }
 }

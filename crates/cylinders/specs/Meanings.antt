@@ -1,7 +1,8 @@
 -- What a cylinder means, as the code has it.
 use Rattle.drives.specs.Meaning.{DriveMeaning}
-use Rattle.cylinders.specs.declared.cylinder.Cylinder.{Cylinder}
-use Rattle.cylinders.specs.Cylinders.{cylinder_meaning, scale_in_range}
+use Rattle.drives.specs.declared.made.MadeDrive.{MadeDrive}
+use Rattle.cylinders.specs.declared.scale.Scale.{Scale}
+use Rattle.cylinders.specs.Cylinders.{cylinder_meaning}
 
-abbrev pub cylinder_is : Cylinder → DriveMeaning
-cylinder_is d = cylinder_meaning (scale_in_range d.scale.given) d.held
+abbrev pub cylinder_is : MadeDrive Scale → DriveMeaning
+cylinder_is d = cylinder_meaning d.make.k d.held

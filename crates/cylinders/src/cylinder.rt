@@ -1,89 +1,43 @@
 // The oil cylinder.
-ghost use Rattle.std.specs.Prelude.{◌≡◌};
-ghost use Rattle.drives.specs.Holdings.{at_rest};
-ghost use Rattle.cylinders.specs.Cylinders.{cylinder_meaning, scale_in_range};
-ghost use Rattle.cylinders.specs.Meanings.{cylinder_is};
+ghost use Rattle.std.specs.Prelude.{refl};
+ghost use Rattle.cylinders.specs.Cylinders.{cylinder_make};
 ghost use Rattle.cylinders.specs.CylinderLaws.{cylinder_lawful};
 
 use crate::scale::{GREATEST_CURRENT, LEAST_CURRENT, Scale};
-use drives::drive::{Drive, NO_MODE, POSITION_MODE, RECORD_LENGTH};
+use drives::drive::{NO_MODE, POSITION_MODE, RECORD_LENGTH};
 use drives::held::Held;
-use drives::target::{Refusal, Target};
+use drives::made::{DriveMake, MadeDrive};
+use drives::target::Target;
 
 // The trouble of a sensor whose current is out of its range.
 const SENSOR_TROUBLE: u16 = 0x7300;
 
-// A cylinder, known by the scale of its position sensor.
-#[derive(Drop)]
-pub struct Cylinder {
-    scale: Scale,
-    held: Held,
-}
+// A cylinder is known by the scale of its position sensor.
+pub type Cylinder = MadeDrive<Scale>;
 
-impl Cylinder {
-    // k in micrometres for a microampere, brought into its range.
-    pub fn new(k: u32) -> Cylinder
-        ensures { cylinder_is result ≡ cylinder_meaning (scale_in_range k) at_rest }
-    {
-        Cylinder {
-            scale: Scale::new(k),
-            held: Held::at_rest(),
-        }
-    }
-}
+impl DriveMake for Scale {
+    ghost make = { λ s. cylinder_make s.k };
 
-impl Drive for Cylinder {
-    ghost meaning = { cylinder_is };
+    ghost lawful = { λ s. cylinder_lawful s.k };
 
-    ghost lawful = { λ d. cylinder_lawful (scale_in_range d.scale.given) };
-
-    fn energise(&mut self) {
-        self.held.energise();
-    }
-
-    fn de_energise(&mut self) {
-        self.held.de_energise();
-    }
-
-    fn hold(&mut self) {
-        self.held.hold();
-    }
-
-    fn sample(&mut self, record: &[u8; RECORD_LENGTH]) {
-        let reading = self.reading(record);
-        self.held.read(reading);
-    }
-
-    fn take(&mut self, target: Target) -> Result<(), Refusal> {
-        let refusal = self.refusal(target);
-        self.held.take(target, refusal)
-    }
-
-    fn held(&self) -> Held {
-        self.held
-    }
+    ghost stands_alone = { λ s. refl };
 
     fn knows(&self, mode: i8) -> bool {
         matches!(mode, NO_MODE | POSITION_MODE)
     }
 
-    fn admits(&self, target: Target) -> bool {
-        target.mode == POSITION_MODE && 0 <= target.value && target.value <= self.scale.highest()
+    fn admits(&self, _position: i32, target: Target) -> bool {
+        target.mode == POSITION_MODE && (0..=self.highest()).contains(&target.value)
     }
 
-    fn refusal(&self, target: Target) -> Option<Refusal> {
-        let known = self.knows(target.mode);
-        let admitted = self.admits(target);
-        self.held.own_refusal(known, admitted)
-    }
-
-    fn reading(&self, record: &[u8; RECORD_LENGTH]) -> (u16, i32, i32) {
-        let current = u16::from_le_bytes([record[0], record[1]]);
-        let trouble = if current < LEAST_CURRENT || GREATEST_CURRENT < current {
-            SENSOR_TROUBLE
-        } else {
+    fn reading(&self, _held: Held, record: &[u8; RECORD_LENGTH]) -> (u16, i32, i32) {
+        let [low, high, ..] = *record;
+        let current = u16::from_le_bytes([low, high]);
+        let trouble = if (LEAST_CURRENT..=GREATEST_CURRENT).contains(&current) {
             0
+        } else {
+            SENSOR_TROUBLE
         };
-        (trouble, self.scale.position(current), 0)
+        (trouble, self.position(current), 0)
     }
 }

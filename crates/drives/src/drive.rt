@@ -5,6 +5,8 @@ ghost use Rattle.drives.specs.Meaning.{DriveMeaning, Lawful, energised, de_energ
 use crate::held::Held;
 use crate::target::{Refusal, Target};
 
+// Modes are numbers and no enum, since a target may name any: which of them it knows is each drive's to say.
+
 // Mode 0: no mode is chosen. Every drive knows it, and admits no value in it.
 pub const NO_MODE: i8 = 0;
 

@@ -5,7 +5,7 @@ ghost use Rattle.drives.specs.Holdings.{at_rest, energised_held, de_energised_he
 use crate::target::{Cause, Refusal, Target};
 
 // What a drive holds: power, the carried target, the trouble code (0 for none), position and velocity.
-#[derive(Clone, Copy)]
+#[derive(Clone, Copy, Debug, PartialEq, Eq, Default)]
 pub struct Held {
     pub powered: bool,
     pub carried: Option<Target>,
@@ -19,13 +19,7 @@ impl Held {
     pub fn at_rest() -> Held
         ensures { result ≡ at_rest }
     {
-        Held {
-            powered: false,
-            carried: None,
-            trouble: 0,
-            position: 0,
-            velocity: 0,
-        }
+        Held::default()
     }
 
     pub fn energise(&mut self)

@@ -1,7 +1,8 @@
 -- What a hoist means, as the code has it.
 use Rattle.drives.specs.Meaning.{DriveMeaning}
-use Rattle.hoists.specs.declared.hoist.Hoist.{Hoist}
+use Rattle.drives.specs.declared.made.MadeDrive.{MadeDrive}
+use Rattle.hoists.specs.declared.hoist.HoistMake.{HoistMake}
 use Rattle.hoists.specs.Hoists.{hoist_meaning}
 
-abbrev pub hoist_is : Hoist → DriveMeaning
-hoist_is d = hoist_meaning d.lowest d.highest d.greatest_speed d.held
+abbrev pub hoist_is : MadeDrive HoistMake → DriveMeaning
+hoist_is d = hoist_meaning d.make.lowest d.make.highest d.make.greatest_speed d.held

@@ -13,8 +13,8 @@ pub fn inverter_trouble(bits: u16) -> u16
     ensures value { result ≡ inverter_trouble bits }
     ensures lowest_set_bit_names { (k : ℕ) → BitSet bits k → ((j : ℕ) → j < k → BitClear bits j) → result ≡ slice_index inverter_codes k }
 {
-    match INVERTER_CODES.get(bits.trailing_zeros() as usize) {
-        Some(code) => *code,
-        None => 0,
-    }
+    INVERTER_CODES
+        .get(bits.trailing_zeros() as usize)
+        .copied()
+        .unwrap_or(0)
 }

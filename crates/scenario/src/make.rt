@@ -7,10 +7,11 @@ ghost use Rattle.scenario.specs.Described.{make_described, drive_described};
 
 use configured::ConfiguredDrive;
 use configured::make::AnyMake;
-use cylinders::cylinder::Cylinder;
+use cylinders::scale::Scale;
+use drives::made::MadeDrive;
 use grammar::grammar::{is_written, take_signed, take_unsigned, take_word};
 use grammar::wrong::Wrong;
-use hoists::hoist::Hoist;
+use hoists::hoist::HoistMake;
 use lines::words::Words;
 use stacks::stack::Stack;
 use std::alloc::Global;
@@ -29,14 +30,14 @@ fn take_hoist(words: &mut Words<'_>) -> Result<AnyMake, Wrong>
     let lowest = take_value(words)?;
     let highest = take_value(words)?;
     let speed = take_unsigned(words, u32::MAX)?;
-    Ok(AnyMake::Hoist(Hoist::new(lowest, highest, speed)))
+    Ok(AnyMake::Hoist(HoistMake::new(lowest, highest, speed)))
 }
 
 fn take_cylinder(words: &mut Words<'_>) -> Result<AnyMake, Wrong>
     ensures { leaving (make_described result) (words_left words.new) ≡ cylinder_in (words_left words.old) }
 {
     let k = take_unsigned(words, u32::MAX)?;
-    Ok(AnyMake::Cylinder(Cylinder::new(k)))
+    Ok(AnyMake::Cylinder(Scale::new(k)))
 }
 
 fn take_named(name: &[u8], words: &mut Words<'_>) -> Result<AnyMake, Wrong>
@@ -69,7 +70,7 @@ pub(crate) fn take_drive(heap: Global, words: &mut Words<'_>) -> Result<Configur
         if !is_written(name, b"window") {
             let make = take_named(name, words)?;
             limits.reverse();
-            return Ok(Stack::new(make, limits));
+            return Ok(Stack::new(MadeDrive::new(make), limits));
         }
         let window = take_limits(words)?;
         limits.push(window)?;

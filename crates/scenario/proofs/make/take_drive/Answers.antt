@@ -1,6 +1,7 @@
-use Rattle.std.proofs.Common.{◌≡◌, [], ◌∷◌, reverse, Ok, vec_items, sym, ap, ◌∙◌, inr}
+use Rattle.std.proofs.Common.{◌≡◌, [], ◌∷◌, reverse, Ok, vec_items, sym, ap, ap₂, ◌∙◌, inr}
 use Rattle.std.proofs.lemmas.List.{reverse-append}
 use Rattle.std.proofs.lemmas.Result.{err_from_is_err_and}
+use Rattle.drives.specs.Holdings.{at_rest}
 use Rattle.configured.specs.Makes.{make_is}
 use Rattle.stacks.specs.Enclosures.{enclosed}
 use Rattle.lines.specs.Lines.{words_left}
@@ -35,8 +36,8 @@ returns-then-not-is_written c =
     let outer = reverse (vec_items c.loop-limits.limits) in
     let ws = words_left c.loop-limits.words in
     let still = c.loop-limits.invariant in
-    let drive = make_is c.in_ok-make.make in
-    let stack = ap stack_is c.new.ensures ∙ ap (enclosed drive) c.reverse.ensures.items in
+    let drive = make_is (record { make = c.in_ok-make.make; held = at_rest }) in
+    let stack = ap stack_is c.new-then-not-is_written.ensures ∙ ap₂ (λ d. enclosed (make_is d)) c.new.ensures c.reverse.ensures.items in
     inr (ap (λ d. Ok (d, words_left c.take_named.new.words)) stack
     ∙ make_read whole outer ws still c.in_ok-name.name.now (words_left c.take_word.new.words) c.in_ok-name.ensures
     drive (words_left c.take_named.new.words) (sym c.if-not-is_written.ensures) c.in_ok-make.ensures)
