@@ -13,6 +13,7 @@ pub const NO_DRIVE: Refusal = Refusal {
     depth: 0,
 };
 
+// Each method tests the number by itself, and so says what a number beyond the bank stands for.
 impl<D: Drive> Bank for D {
     ghost meanings = { λ d. D.Drive.meaning d ∷ [] };
 

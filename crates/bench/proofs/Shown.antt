@@ -3,7 +3,7 @@ use Rattle.std.proofs.Common.{◌≡◌, ℕ, ap, ◌∙◌}
 use Rattle.configured.specs.declared.make.AnyMake.{AnyMake}
 use Rattle.banks.specs.Lists.{drive_at}
 use Rattle.rows.specs.declared.row.Row.{Row}
-use Rattle.stacks.specs.declared.stack.Stack.{Stack}
+use Rattle.stacks.specs.Enclosures.{Stack}
 use Rattle.scenario.specs.Directives.{Said}
 use Rattle.bench.specs.declared.log.BenchLine.{BenchLine}
 use Rattle.bench.specs.Benches.{bank_is, name_of, number_of, answer_to, LineShows}

@@ -9,7 +9,7 @@ use Rattle.banks.specs.Lists.{drive_at, changed}
 use Rattle.configured.specs.declared.make.AnyMake.{AnyMake}
 use Rattle.rows.specs.declared.row.Row.{Row}
 use Rattle.rows.specs.Rows.{in_row, with_drive}
-use Rattle.stacks.specs.declared.stack.Stack.{Stack}
+use Rattle.stacks.specs.Enclosures.{Stack}
 use Rattle.scenario.specs.declared.directive.Operation.TheVariants.{Energise, DeEnergise, Hold, Sample, Take}
 use Rattle.scenario.specs.Described.{stack_is}
 use Rattle.scenario.specs.Directives.{Said, Declares, Operates, line_says}

@@ -4,7 +4,7 @@ use Rattle.std.proofs.Common.{sym, ap, ◌∙◌, arith}
 use Rattle.std.proofs.ByRecursion.{All-append, All-take}
 use Rattle.std.proofs.lemmas.List.{length-append, length-take, get_or-take, get_or_append_left, get_or-append_right, get_or_past, set-append_left, set-append_right, set_past}
 use Rattle.drives.specs.Meaning.{DriveMeaning}
-use Rattle.banks.proofs.Cuts.{take-set}
+use Rattle.std.proofs.Math.Seq.{take-set-lt}
 use Rattle.pairs.specs.declared.pair.Place.TheVariants.{First, Second}
 use Rattle.banks.specs.Lists.{most, absent, drive_at, AllLawful}
 use Rattle.pairs.specs.Pairs.{side_by_side, FoundAt}
@@ -13,13 +13,10 @@ module _ (first second : List DriveMeaning) (few : length first ≤ most) (i : �
   -- a number of the first bank
   pub found_first : i < length first → FoundAt first second i (First i)
   found_first below =
-      let there : drive_at (side_by_side first second) i ≡ drive_at first i =
-      get_or-take most (first ++ second) i absent (omega arith) ∙ get_or_append_left first second absent i below in
       record {
-        there = there;
-        changes = λ f after is. rw (is, there)
-            (ap (take most) (sym (set-append_left first second i (f (drive_at first i)) below))
-            ∙ take-set most (first ++ second) i (f (drive_at first i)));
+        there = get_or-take most (first ++ second) i absent (omega arith) ∙ get_or_append_left first second absent i below;
+        changes = λ drive.
+            ap (take most) (sym (set-append_left first second i drive below)) ∙ take-set-lt most (first ++ second) i drive (omega arith);
       }
 
   -- a number past both is beyond the first bank too
@@ -28,20 +25,17 @@ module _ (first second : List DriveMeaning) (few : length first ≤ most) (i : �
       let cut : length (side_by_side first second) ≤ i = simp length-take (omega arith) in
       record {
         there = get_or_past (side_by_side first second) i absent cut ∙ sym (get_or_past first i absent (omega arith));
-        changes = λ f after is. rw (is, set_past first i (f (drive_at first i)) (omega arith))
-            (sym (set_past (side_by_side first second) i (f (drive_at (side_by_side first second) i)) cut));
+        changes = λ drive. rw (set_past first i drive (omega arith)) (sym (set_past (side_by_side first second) i drive cut));
       }
 
   -- the second bank counts on from the first
   pub found_second : length first ≤ i → i < most → FoundAt first second i (Second (i - length first))
   found_second past below =
-      let there : drive_at (side_by_side first second) i ≡ drive_at second (i - length first) =
-      get_or-take most (first ++ second) i absent below ∙ get_or-append_right first second (length first) i absent refl past in
       record {
-        there = there;
-        changes = λ f after is. rw (is, there)
-            (ap (take most) (sym (set-append_right first second (length first) i (f (drive_at second (i - length first))) refl past))
-            ∙ take-set most (first ++ second) i (f (drive_at second (i - length first))));
+        there = get_or-take most (first ++ second) i absent below ∙ get_or-append_right first second (length first) i absent refl past;
+        changes = λ drive.
+            ap (take most) (sym (set-append_right first second (length first) i drive refl past))
+            ∙ take-set-lt most (first ++ second) i drive below;
       }
 
 pub lawful-side_by_side : (first second : List DriveMeaning) → AllLawful first → AllLawful second → AllLawful (side_by_side first second)

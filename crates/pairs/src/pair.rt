@@ -15,7 +15,8 @@ pub struct Pair<A, B> {
     second: B,
 }
 
-// Where a number of a pair is found: a number of the first bank or of the second.
+// Where a number of a pair is found: a number of the first bank or of the second. The kit's `Either` would only say left
+// and right for it.
 #[derive(Clone, Copy)]
 pub enum Place {
     First(u8),

@@ -1,12 +1,14 @@
 -- A row of drives as a bank: what stands at a number, and what a change there makes of the row.
-use Rattle.std.specs.Prelude.{◌≡◌, ℕ, zero, suc, ◌<◌, ◌≤◌, min, Bool, true, false, cond, List, [], ◌∷◌, ◌++◌, map, length, take, slice_index_or, slice_set, refl}
-use Rattle.std.proofs.Common.{sym, ap, ◌∙◌, arith}
+use Rattle.std.specs.Prelude.{◌≡◌, ℕ, zero, suc, ◌<◌, ◌≤◌, min, Bool, true, false, cond, List, [], ◌∷◌, ◌++◌, map, length, take, refl}
+use Rattle.std.specs.Bool.{then_some}
+use Rattle.std.proofs.Common.{ltb, sym, ap, ◌∙◌, arith}
+use Rattle.std.proofs.lemmas.Bool.{ltb-true, ltb-false}
 use Rattle.std.proofs.ByRecursion.{All-take}
 use Rattle.std.proofs.lemmas.List.{map-append, length-map, length-take, get_or-map, get_or-take, get_or_past, map-set, set_past}
 use Rattle.drives.specs.Meaning.{DriveMeaning, Lawful}
-use Rattle.banks.specs.Lists.{most, absent, drive_at, AllLawful}
-use Rattle.banks.proofs.Cuts.{take-set}
-use Rattle.rows.specs.Rows.{in_row, with_drive, AtPlace, Beyond}
+use Rattle.banks.specs.Lists.{most, absent, AllLawful}
+use Rattle.std.proofs.Math.Seq.{take-set-lt}
+use Rattle.rows.specs.Rows.{in_row, with_drive, AtPlace, Beyond, PlaceIs}
 
 module _ {D : Type 0} (meaning : D → DriveMeaning) (drives : List D) where
   pub row_count : min (length drives) most ≡ length (in_row meaning drives)
@@ -15,26 +17,31 @@ module _ {D : Type 0} (meaning : D → DriveMeaning) (drives : List D) where
   pub row_few : length (in_row meaning drives) ≤ most
   row_few = simp length-take (omega arith)
 
-  pub at_place : (i : ℕ) → i < length (in_row meaning drives) → AtPlace meaning drives i i
+  at_place : (i : ℕ) → i < length (in_row meaning drives) → AtPlace meaning drives i i
   at_place i of-bank =
       let inside : i < length drives = omega (arith, row_count) in
-      let there : (d : D) → d ≡ slice_index_or drives i d → drive_at (in_row meaning drives) i ≡ meaning d =
-      λ d read. get_or-take most (map meaning drives) i absent (omega (arith, row_count)) ∙ get_or-map meaning drives i d absent inside ∙ ap meaning (sym read) in
       record {
         inside = inside;
-        there = there;
-        changes = λ f d after read is.
-            ap (take most) (map-set meaning drives i after)
-            ∙ take-set most (map meaning drives) i (meaning after)
-            ∙ ap (slice_set (in_row meaning drives) i) (is ∙ ap f (sym (there d read)));
+        there = λ d read. get_or-take most (map meaning drives) i absent (omega (arith, row_count))
+            ∙ get_or-map meaning drives i d absent inside
+            ∙ ap meaning (sym read);
+        changes = λ after. ap (take most) (map-set meaning drives i after)
+            ∙ take-set-lt most (map meaning drives) i (meaning after) (omega (arith, row_count));
       }
 
-  pub beyond : (i : ℕ) → length (in_row meaning drives) ≤ i → Beyond (in_row meaning drives) i
+  beyond : (i : ℕ) → length (in_row meaning drives) ≤ i → Beyond (in_row meaning drives) i
   beyond i past =
       record {
         there = get_or_past (in_row meaning drives) i absent past;
-        changes = λ f. sym (set_past (in_row meaning drives) i (f (drive_at (in_row meaning drives) i)) past);
+        changes = λ drive. set_past (in_row meaning drives) i drive past;
       }
+
+  pub place_is : (i : ℕ) → PlaceIs meaning drives i (then_some (ltb i (length (in_row meaning drives))) i)
+  place_is i = go (ltb i (length (in_row meaning drives))) refl
+    where
+      go : (inside : Bool) → ltb i (length (in_row meaning drives)) ≡ inside → PlaceIs meaning drives i (then_some inside i)
+      go true is = at_place i (ltb-true i _ is)
+      go false is = beyond i (ltb-false i _ is)
 
   pub row_lawful : ((d : D) → Lawful (meaning d).make) → AllLawful (in_row meaning drives)
   row_lawful law = All-take _ most (map meaning drives) (go drives)

@@ -1,7 +1,7 @@
 -- Any number of drives in a row: the first 255 are of the bank.
 use Rattle.std.specs.Prelude.{◌≡◌, ℕ, ◌<◌, List, [], ◌∷◌, ◌++◌, map, length, take, Some, None, Option, slice_index_or, slice_set}
 use Rattle.drives.specs.Meaning.{DriveMeaning}
-use Rattle.banks.specs.Lists.{most, absent, drive_at, changed}
+use Rattle.banks.specs.Lists.{most, absent, drive_at}
 
 abbrev pub in_row : {D : Type 0} → (D → DriveMeaning) → List D → List DriveMeaning
 in_row meaning drives = take most (map meaning drives)
@@ -14,14 +14,12 @@ with_drive bank drive = take most (bank ++ (drive ∷ []))
 pub record AtPlace {D : Type 0} (meaning : D → DriveMeaning) (drives : List D) (i k : ℕ) : Type 0 where
   pub inside : k < length drives
   pub there : (d : D) → d ≡ slice_index_or drives k d → drive_at (in_row meaning drives) i ≡ meaning d
-  pub changes :
-      (f : DriveMeaning → DriveMeaning) (d after : D)
-      → d ≡ slice_index_or drives k d → meaning after ≡ f (meaning d) → in_row meaning (slice_set drives k after) ≡ changed f (in_row meaning drives) i
+  pub changes : (after : D) → in_row meaning (slice_set drives k after) ≡ slice_set (in_row meaning drives) i (meaning after)
 
 -- Number i is beyond the bank: nothing is there to be seen or changed.
 pub record Beyond (bank : List DriveMeaning) (i : ℕ) : Type 0 where
   pub there : drive_at bank i ≡ absent
-  pub changes : (f : DriveMeaning → DriveMeaning) → bank ≡ changed f bank i
+  pub changes : (drive : DriveMeaning) → slice_set bank i drive ≡ bank
 
 abbrev pub PlaceIs : {D : Type 0} → (D → DriveMeaning) → List D → ℕ → Option ℕ → Type 0
 PlaceIs meaning drives i (Some k) = AtPlace meaning drives i k

@@ -10,9 +10,6 @@ use drives::held::Held;
 use drives::target::{Refusal, Target};
 use std::alloc::{AllocFailed, Global};
 
-// How many drives a bank has at most.
-const MOST: usize = 255;
-
 // Drives in the order in which they came. The first 255 are the bank; no operation reaches the others.
 #[derive(Drop)]
 pub struct Row<D> {
@@ -48,11 +45,7 @@ impl<D: Drive> Row<D> {
     fn place(&self, number: u8) -> Option<usize>
         ensures { PlaceIs D.Drive.meaning self.now.drives.items number result }
     {
-        if number < self.count() {
-            Some(usize::from(number))
-        } else {
-            None
-        }
+        (number < self.count()).then_some(usize::from(number))
     }
 }
 
@@ -64,76 +57,61 @@ impl<D: Drive> Bank for Row<D> {
     ghost few = { λ b. row_few D.Drive.meaning b.drives.items };
 
     fn count(&self) -> u8 {
-        self.len().min(MOST) as u8
+        u8::try_from(self.len()).unwrap_or(u8::MAX)
     }
 
     fn energise_at(&mut self, number: u8) {
-        match self.place(number) {
-            Some(place) => self.drives[place].energise(),
-            None => {}
+        if let Some(place) = self.place(number) {
+            self.drives[place].energise();
         }
     }
 
     fn de_energise_at(&mut self, number: u8) {
-        match self.place(number) {
-            Some(place) => self.drives[place].de_energise(),
-            None => {}
+        if let Some(place) = self.place(number) {
+            self.drives[place].de_energise();
         }
     }
 
     fn hold_at(&mut self, number: u8) {
-        match self.place(number) {
-            Some(place) => self.drives[place].hold(),
-            None => {}
+        if let Some(place) = self.place(number) {
+            self.drives[place].hold();
         }
     }
 
     fn sample_at(&mut self, number: u8, record: &[u8; RECORD_LENGTH]) {
-        match self.place(number) {
-            Some(place) => self.drives[place].sample(record),
-            None => {}
+        if let Some(place) = self.place(number) {
+            self.drives[place].sample(record);
         }
     }
 
     fn take_at(&mut self, number: u8, target: Target) -> Result<(), Refusal> {
-        match self.place(number) {
-            Some(place) => self.drives[place].take(target),
-            None => Err(NO_DRIVE),
-        }
+        let place = self.place(number).ok_or(NO_DRIVE)?;
+        self.drives[place].take(target)
     }
 
     fn held_at(&self, number: u8) -> Held {
-        match self.place(number) {
-            Some(place) => self.drives[place].held(),
-            None => Held::at_rest(),
-        }
+        self.place(number)
+            .map_or(Held::at_rest(), |place| self.drives[place].held())
     }
 
     fn knows_at(&self, number: u8, mode: i8) -> bool {
-        match self.place(number) {
-            Some(place) => self.drives[place].knows(mode),
-            None => false,
-        }
+        self.place(number)
+            .is_some_and(|place| self.drives[place].knows(mode))
     }
 
     fn admits_at(&self, number: u8, target: Target) -> bool {
-        match self.place(number) {
-            Some(place) => self.drives[place].admits(target),
-            None => false,
-        }
+        self.place(number)
+            .is_some_and(|place| self.drives[place].admits(target))
     }
 
     fn refusal_at(&self, number: u8, target: Target) -> Option<Refusal> {
-        match self.place(number) {
-            Some(place) => self.drives[place].refusal(target),
-            None => Some(NO_DRIVE),
-        }
+        self.place(number).map_or(Some(NO_DRIVE), |place| {
+            self.drives[place].refusal(target)
+        })
     }
 
     fn reading_at(&self, number: u8, record: &[u8; RECORD_LENGTH]) -> (u16, i32, i32) {
-        match self.place(number) {
-            Some(place) => self.drives[place].reading(record),
-            None => (0, 0, 0),
-        }
+        self.place(number)
+            .map_or((0, 0, 0), |place| self.drives[place].reading(record))
     }
 }

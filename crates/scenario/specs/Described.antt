@@ -5,12 +5,11 @@ use Rattle.drives.specs.Meaning.{DriveMeaning}
 use Rattle.drives.specs.declared.made.MadeDrive.{MadeDrive}
 use Rattle.configured.specs.declared.make.AnyMake.{AnyMake}
 use Rattle.configured.specs.Makes.{make_is}
-use Rattle.stacks.specs.declared.stack.Stack.{Stack}
-use Rattle.stacks.specs.Enclosures.{enclosed}
+use Rattle.stacks.specs.Enclosures.{Stack, stacked}
 use Rattle.grammar.specs.declared.wrong.Wrong.{Wrong}
 
 abbrev pub stack_is : Stack (MadeDrive AnyMake) → DriveMeaning
-stack_is drive = enclosed (make_is drive.below) (vec_items drive.limits)
+stack_is drive = stacked (make_is drive.below) (vec_items drive.guard.windows)
 
 -- a drive of the make, at rest
 abbrev pub make_described : Result AnyMake Wrong → Result DriveMeaning Wrong

@@ -13,7 +13,7 @@ use grammar::grammar::{is_written, take_signed, take_unsigned, take_word};
 use grammar::wrong::Wrong;
 use hoists::hoist::HoistMake;
 use lines::words::Words;
-use stacks::stack::Stack;
+use stacks::stack::{Enclosure, Stack};
 use std::alloc::Global;
 use windows::window::Limits;
 
@@ -70,7 +70,7 @@ pub(crate) fn take_drive(heap: Global, words: &mut Words<'_>) -> Result<Configur
         if !is_written(name, b"window") {
             let make = take_named(name, words)?;
             limits.reverse();
-            return Ok(Stack::new(MadeDrive::new(make), limits));
+            return Ok(Stack::over(Enclosure::new(limits), MadeDrive::new(make)));
         }
         let window = take_limits(words)?;
         limits.push(window)?;

@@ -1,5 +1,5 @@
 -- Windows. A window has a low and a high position over any drive, and is itself a drive.
-use Rattle.std.specs.Prelude.{Bool, cond, not, ◌&&◌, ◌||◌, ℤ, pos, Option, int_le, int_lt}
+use Rattle.std.specs.Prelude.{Bool, cond, ◌&&◌, ◌||◌, ℤ, pos, Option, int_le, int_lt}
 use Rattle.std.specs.Option.{option_map}
 use Rattle.drives.specs.declared.target.Target.{Target}
 use Rattle.drives.specs.declared.target.Cause.TheVariants.{Window}
@@ -9,6 +9,7 @@ use Rattle.drives.specs.Refusals.{deepened}
 use Rattle.drives.specs.Holdings.{refusal_for}
 use Rattle.drives.specs.Meaning.{Make, DriveMeaning}
 use Rattle.drives.specs.Modes.{is_mode, position_mode, velocity_mode}
+use Rattle.windows.specs.Guards.{guarded_make, guarded}
 
 -- What the limits keep out at a held position: positions outside low to high, a positive velocity at high or above,
 -- a negative one at low or below. Every other mode, and velocity 0, passes.
@@ -26,14 +27,8 @@ refusal_above limits position target below =
     cond (keeps_out limits position target) (refusal_for Window) (option_map deepened below)
 
 abbrev pub window_make : Limits → Make → Make
-window_make limits below =
-    record {
-      knows = below.knows;
-      admits = λ position target. not (keeps_out limits position target) && below.admits position target;
-      refuses = λ h target. refusal_above limits h.position target (below.refuses h target);
-      reads = below.reads;
-    }
+window_make limits below = guarded_make (keeps_out limits) (refusal_above limits) below
 
 -- A drive with a window around it. It holds what the drive below holds.
 abbrev pub windowed : Limits → DriveMeaning → DriveMeaning
-windowed limits below = record { held = below.held; make = window_make limits below.make }
+windowed limits below = guarded (keeps_out limits) (refusal_above limits) below

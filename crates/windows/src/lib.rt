@@ -1,4 +1,5 @@
 // Windows over any drive.
 #![tactic(auto)]
 
+pub mod guard;
 pub mod window;

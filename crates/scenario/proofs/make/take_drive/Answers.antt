@@ -3,7 +3,9 @@ use Rattle.std.proofs.lemmas.List.{reverse-append}
 use Rattle.std.proofs.lemmas.Result.{err_from_is_err_and}
 use Rattle.drives.specs.Holdings.{at_rest}
 use Rattle.configured.specs.Makes.{make_is}
-use Rattle.stacks.specs.Enclosures.{enclosed}
+use Rattle.stacks.specs.declared.stack.Enclosure.{Enclosure}
+use Rattle.stacks.specs.Enclosures.{stacked}
+use Rattle.stacks.specs.Enclosed.{stacked_is_enclosed}
 use Rattle.lines.specs.Lines.{words_left}
 use Rattle.scenario.specs.Makes.{make_in}
 use Rattle.scenario.specs.Described.{stack_is}
@@ -37,7 +39,10 @@ returns-then-not-is_written c =
     let ws = words_left c.loop-limits.words in
     let still = c.loop-limits.invariant in
     let drive = make_is (record { make = c.in_ok-make.make; held = at_rest }) in
-    let stack = ap stack_is c.new-then-not-is_written.ensures ∙ ap₂ (λ d. enclosed (make_is d)) c.new.ensures c.reverse.ensures.items in
+    let stack = ap stack_is c.over.ensures
+    ∙ ap₂ (λ (windows : Enclosure) d. stacked (make_is d) (vec_items windows.windows)) c.new.ensures c.new-then-not-is_written.ensures
+    ∙ ap (stacked drive) c.reverse.ensures.items
+    ∙ stacked_is_enclosed drive outer in
     inr (ap (λ d. Ok (d, words_left c.take_named.new.words)) stack
     ∙ make_read whole outer ws still c.in_ok-name.name.now (words_left c.take_word.new.words) c.in_ok-name.ensures
     drive (words_left c.take_named.new.words) (sym c.if-not-is_written.ensures) c.in_ok-make.ensures)

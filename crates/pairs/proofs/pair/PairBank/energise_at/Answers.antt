@@ -1,8 +1,0 @@
-use Rattle.drives.specs.Meaning.{energised}
-use Rattle.pairs.proofs.pair.PairBank.energise_at.Goals as goal
-
-pub returns-in-First : goal.returns-in-First
-returns-in-First g c = c.in-First.ensures.changes energised _ c.energise_at.ensures
-
-pub returns-in-Second : goal.returns-in-Second
-returns-in-Second g c = c.in-Second.ensures.changes energised _ c.energise_at-in-Second.ensures

@@ -1,0 +1,95 @@
+// Drives below a guard.
+ghost use Rattle.std.specs.Prelude.{◌≡◌};
+ghost use Rattle.windows.specs.Guards.{KeepsOut, RefusalAbove, RefusesExactly, guarded, guarded_lawful};
+
+use drives::drive::{Drive, RECORD_LENGTH};
+use drives::held::Held;
+use drives::target::{Refusal, Target};
+
+// What stands above a drive: it may keep targets out, and says how a refusal from below is seen.
+pub trait Guard {
+    ghost keeps_out: { Self → KeepsOut };
+
+    ghost above: { Self → RefusalAbove };
+
+    // Whether the target is kept out at a held position.
+    fn keep_out(&self, position: i32, target: Target) -> bool
+        ensures { result ≡ keeps_out self.now position target };
+
+    // The refusal above a drive that refuses as `below` says.
+    fn refusal_above(
+        &self,
+        position: i32,
+        target: Target,
+        below: Option<Refusal>,
+    ) -> Option<Refusal>
+        ensures { result ≡ above self.now position target below };
+
+    ghost refuses_exactly: { (g : Self) → RefusesExactly (keeps_out g) (above g) };
+}
+
+// A drive below a guard, and itself a drive. What the guard lets pass goes down to the drive below.
+#[derive(Drop)]
+pub struct Guarded<G, D> {
+    guard: G,
+    below: D,
+}
+
+impl<G: Guard, D: Drive> Guarded<G, D> {
+    pub fn over(guard: G, below: D) -> Guarded<G, D>
+        ensures { result ≡ record { guard = guard; below = below } }
+    {
+        Guarded { guard, below }
+    }
+}
+
+impl<G: Guard, D: Drive> Drive for Guarded<G, D> {
+    ghost meaning = { λ d. guarded (G.Guard.keeps_out d.guard) (G.Guard.above d.guard) (D.Drive.meaning d.below) };
+
+    ghost lawful = { λ d. guarded_lawful _ _ (G.Guard.refuses_exactly d.guard) _ (D.Drive.lawful d.below) };
+
+    fn energise(&mut self) {
+        self.below.energise();
+    }
+
+    fn de_energise(&mut self) {
+        self.below.de_energise();
+    }
+
+    fn hold(&mut self) {
+        self.below.hold();
+    }
+
+    fn sample(&mut self, record: &[u8; RECORD_LENGTH]) {
+        self.below.sample(record);
+    }
+
+    fn take(&mut self, target: Target) -> Result<(), Refusal> {
+        match self.refusal(target) {
+            Some(refusal) => Err(refusal),
+            None => self.below.take(target),
+        }
+    }
+
+    fn held(&self) -> Held {
+        self.below.held()
+    }
+
+    fn knows(&self, mode: i8) -> bool {
+        self.below.knows(mode)
+    }
+
+    fn admits(&self, target: Target) -> bool {
+        !self.guard.keep_out(self.below.held().position, target) && self.below.admits(target)
+    }
+
+    fn refusal(&self, target: Target) -> Option<Refusal> {
+        let position = self.below.held().position;
+        let below = self.below.refusal(target);
+        self.guard.refusal_above(position, target, below)
+    }
+
+    fn reading(&self, record: &[u8; RECORD_LENGTH]) -> (u16, i32, i32) {
+        self.below.reading(record)
+    }
+}
