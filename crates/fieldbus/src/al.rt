@@ -1,6 +1,6 @@
 // The AL state machine of ETG.1000.6, without bootstrap.
 ghost use Rattle.std.specs.Prelude.{◌≡◌};
-ghost use Rattle.fieldbus.specs.AlStates.{al_state_number, al_error_number, al_start, al_status, al_code, state_of_number, wanted_state, way_to, granted, acknowledges, requested, broken_off};
+ghost use Rattle.fieldbus.specs.AlStates.{al_state_number, al_error_number, al_start, al_status, al_code, al_state_of_number, wanted_state, way_to, granted, acknowledges, requested, broken_off};
 
 // The AL states, lowest first. The numbers are those of AL control and AL status.
 #[derive(Clone, Copy, Debug, PartialEq, Eq, PartialOrd, Ord)]
@@ -22,7 +22,7 @@ impl From<AlState> for u16 {
 impl TryFrom<u16> for AlState {
     type Error = AlError;
 
-    ghost try_from_gives = { λ number state. state ≡ state_of_number number };
+    ghost try_from_gives = { λ number state. state ≡ al_state_of_number number };
 
     fn try_from(number: u16) -> Result<AlState, AlError> {
         match number {
