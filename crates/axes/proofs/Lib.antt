@@ -1,4 +1,2 @@
 mod Changes
-mod Given
-mod Causes
 mod Cycles

@@ -3,7 +3,7 @@ ghost use Rattle.std.specs.Prelude.{◌≡◌, ℕ, Some};
 ghost use Rattle.profile.specs.declared.state.State.TheVariants.{FaultReactionActive};
 ghost use Rattle.banks.specs.Lists.{drive_at, changed};
 ghost use Rattle.axes.specs.Moves.{command_move, own_move, loss_move, follow_move, is_enabled};
-ghost use Rattle.axes.specs.Steps.{axis_at_start, line_loss, in_state, moved, after_move, noted, acted, acted_drive, heeded, heeded_drive, cycle_move, stop_cause, stay_begun, named_target, refusal_of, given, Cycles, LineLost, axis_under, drive_under};
+ghost use Rattle.axes.specs.Steps.{axis_at_start, line_loss, in_state, moved, after_move, noted, acted, acted_drive, heeded, heeded_drive, line_move, cycle_move, stop_cause, stay_begun, named_target, refusal_of, given, Cycles, LineLost, axis_under, drive_under};
 ghost use Rattle.axes.specs.Seen.{statusword_of, inputs_of};
 
 use banks::bank::Bank;
@@ -21,7 +21,7 @@ use profile::statusword::{Flags, statusword};
 const LINE_LOSS: u16 = 0x8100;
 
 // What the line brings an axis in a cycle.
-#[derive(Clone, Copy)]
+#[derive(Clone, Copy, Debug, PartialEq, Eq)]
 pub enum Line {
     // a frame that is acted on, with the axis's part of it
     Acts(Part),
@@ -48,7 +48,10 @@ pub struct Axis {
     pub key_out: bool,
 }
 
+// A bank and a number go side by side: a struct that lends one drive would wrap seven operations of `Bank`.
+
 // What a move does to the drive: the state entered, if any, decides.
+#[tactic(auto, using(crate::proofs::Changes::unchanged))]
 fn enter<B: Bank>(bank: &mut B, number: u8, from: State, entered: Option<State>)
     ensures { B.meanings bank.new ≡ changed (after_move from entered) (B.meanings bank.old) number }
 {
@@ -74,13 +77,9 @@ fn give<B: Bank>(bank: &mut B, number: u8, target: Option<Target>) -> Option<Ref
         bank.hold_at(number);
         return None;
     };
-    match bank.take_at(number, target) {
-        Ok(()) => None,
-        Err(refusal) => {
-            bank.hold_at(number);
-            Some(refusal)
-        }
-    }
+    let refusal = bank.take_at(number, target).err()?;
+    bank.hold_at(number);
+    Some(refusal)
 }
 
 impl Axis {
@@ -104,12 +103,10 @@ impl Axis {
     fn is_enabled(&self) -> bool
         ensures { result ≡ is_enabled self.now.state }
     {
-        match self.state {
-            State::OperationEnabled => true,
-            _ => false,
-        }
+        self.state == State::OperationEnabled
     }
 
+    // Gives the state entered as a move, so that an arm of a match over the moves is one call.
     fn go_to(&mut self, next: State) -> Option<State>
         ensures entered { result ≡ Some next }
         ensures goes { self.new ≡ in_state next self.old.error self.old }
@@ -132,25 +129,20 @@ impl Axis {
         ensures decides { result ≡ command_move self.old.key_out self.old.state command }
         ensures moves { (cause : ℕ) → self.new ≡ moved cause result self.old }
     {
-        match (self.state, command) {
-            (State::SwitchOnDisabled, Command::Shutdown) if !self.key_out => {
-                self.go_to(State::Ready)
-            }
-            (State::Ready, Command::SwitchOn | Command::EnableOperation) => {
-                self.go_to(State::SwitchedOn)
-            }
-            (State::SwitchedOn | State::OperationEnabled, Command::Shutdown) => {
-                self.go_to(State::Ready)
-            }
-            (State::SwitchedOn, Command::EnableOperation) => self.go_to(State::OperationEnabled),
-            (State::OperationEnabled, Command::SwitchOn) => self.go_to(State::SwitchedOn),
-            (State::OperationEnabled, Command::QuickStop) => self.go_to(State::QuickStopActive),
+        let next = match (self.state, command) {
+            (State::SwitchOnDisabled, Command::Shutdown) if !self.key_out => State::Ready,
+            (State::Ready, Command::SwitchOn | Command::EnableOperation) => State::SwitchedOn,
+            (State::SwitchedOn | State::OperationEnabled, Command::Shutdown) => State::Ready,
+            (State::SwitchedOn, Command::EnableOperation) => State::OperationEnabled,
+            (State::OperationEnabled, Command::SwitchOn) => State::SwitchedOn,
+            (State::OperationEnabled, Command::QuickStop) => State::QuickStopActive,
             (
                 State::Ready | State::SwitchedOn | State::OperationEnabled | State::QuickStopActive,
                 Command::DisableVoltage,
-            ) => self.go_to(State::SwitchOnDisabled),
-            _ => None,
-        }
+            ) => State::SwitchOnDisabled,
+            _ => return None,
+        };
+        self.go_to(next)
     }
 
     // The move that the axis makes on its own account: trouble stops it, and what has begun goes on.
@@ -186,22 +178,19 @@ impl Axis {
         ensures decides { result ≡ follow_move controlword trouble self.old }
         ensures moves { (cause : ℕ) → self.new ≡ moved cause result self.old }
     {
-        match self.state {
-            State::Fault if reset_bit(controlword) && !self.bit7 && trouble == 0 => {
-                self.error = 0;
-                self.go_to(State::SwitchOnDisabled)
-            }
-            _ => self.follow(Command::of(controlword)),
+        if self.state == State::Fault && reset_bit(controlword) && !self.bit7 && trouble == 0 {
+            self.error = 0;
+            return self.go_to(State::SwitchOnDisabled);
         }
+        self.follow(Command::of(controlword))
     }
 
     // Takes note of a part that is acted on. A known mode is displayed unless operation was enabled as the cycle began.
     fn note<B: Bank>(&mut self, part: Part, was_enabled: bool, bank: &B, number: u8)
         ensures { self.new ≡ noted part was_enabled (drive_at (B.meanings bank.now) number) self.old }
     {
-        match part.mode {
-            Some(mode) => self.wanted = mode,
-            None => {}
+        if let Some(mode) = part.mode {
+            self.wanted = mode;
         }
         if !was_enabled && bank.knows_at(number, self.wanted) {
             self.displayed = self.wanted;
@@ -220,16 +209,14 @@ impl Axis {
             VELOCITY_MODE => part.velocity,
             _ => None,
         };
-        match value {
-            Some(value) => Some(Target {
-                mode: self.displayed,
-                value,
-            }),
-            None => None,
-        }
+        value.map(|value| Target {
+            mode: self.displayed,
+            value,
+        })
     }
 
     // Acts on a part once the axis has moved: in Operation enabled the drive is given the target that the part names.
+    #[tactic(auto, using(crate::proofs::Changes::unchanged), unfolding(crate::specs::Steps::acted, crate::specs::Steps::acted_drive))]
     fn act_on<B: Bank>(&mut self, part: Part, was_enabled: bool, bank: &mut B, number: u8)
         ensures noted { self.new ≡ acted part was_enabled (drive_at (B.meanings bank.old) number) self.old }
         ensures driven { B.meanings bank.new ≡ changed (acted_drive part was_enabled self.old) (B.meanings bank.old) number }
@@ -241,6 +228,7 @@ impl Axis {
     }
 
     // What is left of a cycle after the move, for an axis that has made one and for one that has not: a part that the line brings is acted on.
+    #[tactic(auto, using(crate::proofs::Changes::unchanged))]
     fn heed<B: Bank>(&mut self, line: Line, was_enabled: bool, bank: &mut B, number: u8)
         ensures noted { self.new ≡ heeded line was_enabled (drive_at (B.meanings bank.old) number) self.old }
         ensures driven { B.meanings bank.new ≡ changed (heeded_drive line was_enabled self.old) (B.meanings bank.old) number }
@@ -251,16 +239,28 @@ impl Axis {
         }
     }
 
+    // The move that the line brings, for an axis without a move of its own.
+    fn obey_line(&mut self, line: Line, trouble: u16) -> Option<State>
+        ensures decides { result ≡ line_move line trouble self.old }
+        ensures moves { own_move trouble self.old.state ≡ None → self.new ≡ moved (stop_cause trouble) result self.old }
+    {
+        match line {
+            Line::Acts(part) => self.obey(part.controlword, trouble),
+            Line::RunsOut => self.break_off(),
+            Line::Quiet => None,
+        }
+    }
+
     // The one move of a cycle: the axis's own, or else the one that the line brings.
+    #[tactic(auto, unfolding(crate::specs::Steps::cycle_move))]
     fn make_move(&mut self, line: Line, trouble: u16) -> Option<State>
         ensures decides { result ≡ cycle_move line trouble self.old }
         ensures moves { self.new ≡ moved (stop_cause trouble) result self.old }
     {
-        match (self.supervise(trouble), line) {
-            (Some(next), _) => Some(next),
-            (None, Line::Acts(part)) => self.obey(part.controlword, trouble),
-            (None, Line::RunsOut) => self.break_off(),
-            (None, Line::Quiet) => None,
+        // No `or_else`: where it leaves its closure uncalled, it says nothing of the axis that the closure borrows.
+        match self.supervise(trouble) {
+            None => self.obey_line(line, trouble),
+            made => made,
         }
     }
 
@@ -285,6 +285,7 @@ impl Axis {
     }
 
     // The loss of the line outside a cycle: AL has left Operational by a request.
+    #[tactic(auto, unfolding(crate::specs::Steps::axis_under, crate::specs::Steps::drive_under))]
     pub fn lose_line<B: Bank>(&mut self, bank: &mut B, number: u8)
         ensures axis_steps { self.new ≡ axis_under LineLost self.old (drive_at (B.meanings bank.old) number) }
         ensures drive_steps { B.meanings bank.new ≡ changed (drive_under LineLost self.old) (B.meanings bank.old) number }

@@ -35,15 +35,19 @@ error_code (Some error) = al_error_number error
 abbrev pub al_code : Al → ℕ
 al_code al = error_code al.error
 
--- The state that bits 0-3 of a control word want. State 3 is bootstrap.
-abbrev pub wanted_state : ℕ → Result AlState AlError
-wanted_state control =
-    cond (control % 16 == 1) (Ok Init)
-    (cond (control % 16 == 2) (Ok PreOp)
-    (cond (control % 16 == 3) (Err BootstrapNotSupported)
-    (cond (control % 16 == 4) (Ok SafeOp)
-    (cond (control % 16 == 8) (Ok Op)
+-- The state of a number. Number 3 is bootstrap.
+abbrev pub al_state_of_number : ℕ → Result AlState AlError
+al_state_of_number number =
+    cond (number == 1) (Ok Init)
+    (cond (number == 2) (Ok PreOp)
+    (cond (number == 3) (Err BootstrapNotSupported)
+    (cond (number == 4) (Ok SafeOp)
+    (cond (number == 8) (Ok Op)
     (Err UnknownState)))))
+
+-- The state that bits 0-3 of a control word want.
+abbrev pub wanted_state : ℕ → Result AlState AlError
+wanted_state control = al_state_of_number (control % 16)
 
 -- From PreOp to SafeOp both lengths have to be right, the output length first.
 abbrev pub lengths_checked : Lengths → Lengths → Result AlState AlError

@@ -1,9 +1,9 @@
 // The AL state machine of ETG.1000.6, without bootstrap.
 ghost use Rattle.std.specs.Prelude.{◌≡◌};
-ghost use Rattle.fieldbus.specs.AlStates.{al_state_number, al_error_number, al_start, al_status, al_code, wanted_state, way_to, requested, broken_off};
+ghost use Rattle.fieldbus.specs.AlStates.{al_state_number, al_error_number, al_start, al_status, al_code, al_state_of_number, wanted_state, way_to, granted, acknowledges, requested, broken_off};
 
-// The AL states. The numbers are those of AL control and AL status.
-#[derive(Clone, Copy)]
+// The AL states, lowest first. The numbers are those of AL control and AL status.
+#[derive(Clone, Copy, Debug, PartialEq, Eq, PartialOrd, Ord)]
 pub enum AlState {
     Init = 1,
     PreOp = 2,
@@ -11,16 +11,33 @@ pub enum AlState {
     Op = 8,
 }
 
-impl AlState {
-    fn number(self) -> u16
-        ensures { result ≡ al_state_number self }
-    {
-        self as u16
+impl From<AlState> for u16 {
+    ghost from_gives = { λ state number. number ≡ al_state_number state };
+
+    fn from(state: AlState) -> u16 {
+        state as u16
+    }
+}
+
+impl TryFrom<u16> for AlState {
+    type Error = AlError;
+
+    ghost try_from_gives = { λ number state. state ≡ al_state_of_number number };
+
+    fn try_from(number: u16) -> Result<AlState, AlError> {
+        match number {
+            1 => Ok(AlState::Init),
+            2 => Ok(AlState::PreOp),
+            3 => Err(AlError::BootstrapNotSupported),
+            4 => Ok(AlState::SafeOp),
+            8 => Ok(AlState::Op),
+            _ => Err(AlError::UnknownState),
+        }
     }
 }
 
 // Why the error flag is set. The numbers are AL status codes.
-#[derive(Clone, Copy)]
+#[derive(Clone, Copy, Debug, PartialEq, Eq)]
 pub enum AlError {
     InvalidStateChange = 0x0011,
     UnknownState = 0x0012,
@@ -30,37 +47,30 @@ pub enum AlError {
     InvalidInputConfiguration = 0x001e,
 }
 
-impl AlError {
-    fn number(self) -> u16
-        ensures { result ≡ al_error_number self }
-    {
-        self as u16
+impl From<AlError> for u16 {
+    ghost from_gives = { λ error number. number ≡ al_error_number error };
+
+    fn from(error: AlError) -> u16 {
+        error as u16
     }
 }
 
 // How many bytes of process data a side counts on: outputs are a frame, inputs a return image.
-#[derive(Clone, Copy)]
+#[derive(Clone, Copy, Debug, PartialEq, Eq)]
 pub struct Lengths {
     pub output: usize,
     pub input: usize,
 }
 
-// The state that bits 0-3 of a control word want.
-fn wanted_state(control: u16) -> Result<AlState, AlError>
-    ensures { result ≡ wanted_state control }
+// Bit 4 of a control word acknowledges an error.
+fn acknowledges(control: u16) -> bool
+    ensures { result ≡ acknowledges control }
 {
-    match control % 16 {
-        1 => Ok(AlState::Init),
-        2 => Ok(AlState::PreOp),
-        3 => Err(AlError::BootstrapNotSupported),
-        4 => Ok(AlState::SafeOp),
-        8 => Ok(AlState::Op),
-        _ => Err(AlError::UnknownState),
-    }
+    control & 0x10 != 0
 }
 
 // AL: the state, and the error while the flag is set.
-#[derive(Clone, Copy)]
+#[derive(Clone, Copy, Debug, PartialEq, Eq)]
 pub struct Al {
     pub state: AlState,
     pub error: Option<AlError>,
@@ -81,20 +91,14 @@ impl Al {
     pub fn status(self) -> u16
         ensures { result ≡ al_status self }
     {
-        match self.error {
-            Some(_) => self.state.number() + 16,
-            None => self.state.number(),
-        }
+        u16::from(self.state) + self.error.map_or(0, |_| 16)
     }
 
     // The AL status code, 0 without an error.
     pub fn code(self) -> u16
         ensures { result ≡ al_code self }
     {
-        match self.error {
-            Some(error) => error.number(),
-            None => 0,
-        }
+        self.error.map_or(0, u16::from)
     }
 
     // Whether a state may be entered from the present one. Only the way from PreOp to SafeOp looks at the lengths.
@@ -102,7 +106,7 @@ impl Al {
         ensures { result ≡ way_to self.state wanted offered needed }
     {
         match (self.state, wanted) {
-            (present, wanted) if wanted.number() <= present.number() => Ok(wanted),
+            (present, wanted) if wanted <= present => Ok(wanted),
             (AlState::Init, AlState::PreOp) | (AlState::SafeOp, AlState::Op) => Ok(wanted),
             (AlState::PreOp, AlState::SafeOp) => {
                 if offered.output != needed.output {
@@ -117,20 +121,23 @@ impl Al {
         }
     }
 
+    // What a control word is granted: the state that its bits 0-3 want, where there is a way to it.
+    fn grant(self, control: u16, offered: Lengths, needed: Lengths) -> Result<AlState, AlError>
+        ensures { result ≡ granted self offered needed (wanted_state control) }
+    {
+        let wanted = AlState::try_from(control % 16)?;
+        self.way_to(wanted, offered, needed)
+    }
+
     // An AL request with its control word, the lengths that the master offers and those that are needed here.
-    // An error has to be acknowledged by bit 4 before anything else is looked at.
+    // An error has to be acknowledged before anything else is looked at.
     pub fn request(&mut self, control: u16, offered: Lengths, needed: Lengths)
         ensures { self.new ≡ requested control offered needed self.old }
     {
-        let acknowledges = control / 16 % 2 == 1;
-        if self.error.is_some() && !acknowledges {
+        if self.error.is_some() && !acknowledges(control) {
             return;
         }
-        let granted = match wanted_state(control) {
-            Ok(wanted) => self.way_to(wanted, offered, needed),
-            Err(error) => Err(error),
-        };
-        match granted {
+        match self.grant(control, offered, needed) {
             Ok(state) => {
                 self.state = state;
                 self.error = None;

@@ -1,11 +1,11 @@
 // Frames, read axis by axis.
-ghost use Rattle.std.specs.Prelude.{◌≡◌, ◌≤◌, length};
-ghost use Rattle.fieldbus.specs.Frames.{part_length, nothing_carried, part_in, next_part, after_part};
+ghost use Rattle.std.specs.Prelude.{◌≡◌};
+ghost use Rattle.fieldbus.specs.Frames.{nothing_carried, next_part, after_part};
 
 use crate::layout::Layout;
 
 // What a frame carries for one axis.
-#[derive(Clone, Copy)]
+#[derive(Clone, Copy, Debug, Default, PartialEq, Eq)]
 pub struct Part {
     pub controlword: u16,
     pub position: Option<i32>,
@@ -18,41 +18,32 @@ impl Part {
     pub fn nothing() -> Part
         ensures { result ≡ nothing_carried }
     {
-        Part {
-            controlword: 0,
-            position: None,
-            velocity: None,
-            mode: None,
-        }
+        Part::default()
     }
 }
 
-// What the bytes of a part carry.
-fn read_part(layout: Layout, bytes: &[u8]) -> Part
-    requires { part_length layout ≤ length bytes.now }
-    ensures { result ≡ part_in layout bytes.now }
+// What the bytes of a part carry, none where they end before the part does.
+fn read_part(layout: Layout, bytes: &[u8]) -> Option<Part>
+    ensures { result ≡ next_part layout bytes.now }
 {
-    let controlword = u16::from_le_bytes([bytes[0], bytes[1]]);
-    let first = i32::from_le_bytes([bytes[2], bytes[3], bytes[4], bytes[5]]);
-    match layout {
-        Layout::Full => Part {
-            controlword,
-            position: Some(first),
-            velocity: Some(i32::from_le_bytes([bytes[6], bytes[7], bytes[8], bytes[9]])),
-            mode: Some(bytes[10].cast_signed()),
-        },
-        Layout::Position => Part {
-            controlword,
-            position: Some(first),
-            velocity: None,
-            mode: None,
-        },
-        Layout::Velocity => Part {
-            controlword,
-            position: None,
-            velocity: Some(first),
-            mode: None,
-        },
+    match (layout, bytes) {
+        (Layout::Full, &[c0, c1, p0, p1, p2, p3, v0, v1, v2, v3, mode, ..]) => Some(Part {
+            controlword: u16::from_le_bytes([c0, c1]),
+            position: Some(i32::from_le_bytes([p0, p1, p2, p3])),
+            velocity: Some(i32::from_le_bytes([v0, v1, v2, v3])),
+            mode: Some(mode.cast_signed()),
+        }),
+        (Layout::Position, &[c0, c1, p0, p1, p2, p3, ..]) => Some(Part {
+            controlword: u16::from_le_bytes([c0, c1]),
+            position: Some(i32::from_le_bytes([p0, p1, p2, p3])),
+            ..Part::nothing()
+        }),
+        (Layout::Velocity, &[c0, c1, v0, v1, v2, v3, ..]) => Some(Part {
+            controlword: u16::from_le_bytes([c0, c1]),
+            velocity: Some(i32::from_le_bytes([v0, v1, v2, v3])),
+            ..Part::nothing()
+        }),
+        _ => None,
     }
 }
 
@@ -74,12 +65,8 @@ impl<'a> FrameReader<'a> {
         ensures reads { result ≡ next_part layout self.old.rest.now }
         ensures steps { self.new.rest.now ≡ after_part layout self.old.rest.now }
     {
-        let bytes = self.rest;
-        let length = layout.length();
-        if bytes.len() < length {
-            return None;
-        }
-        self.rest = &bytes[length..];
-        Some(read_part(layout, bytes))
+        let part = read_part(layout, self.rest)?;
+        self.rest = &self.rest[layout.length()..];
+        Some(part)
     }
 }

@@ -3,7 +3,7 @@ ghost use Rattle.std.specs.Prelude.{◌≡◌};
 ghost use Rattle.fieldbus.specs.Frames.{part_length};
 
 // What an axis's part of a frame consists of, in its order. Every part begins with the controlword.
-#[derive(Clone, Copy)]
+#[derive(Clone, Copy, Debug, PartialEq, Eq)]
 pub enum Layout {
     // target position, target velocity and mode
     Full = 0,

@@ -7,7 +7,7 @@ const LONGEST_DELAY: u16 = 60_000;
 
 // The watch: the delay, which is how many cycles without a frame it lets pass, and the silence, which is how many of
 // them have passed.
-#[derive(Clone, Copy)]
+#[derive(Clone, Copy, Debug, PartialEq, Eq)]
 pub struct Watch {
     pub delay: u16,
     pub silence: u16,
@@ -19,7 +19,7 @@ impl Watch {
         ensures { result ≡ watch_set delay }
     {
         Watch {
-            delay: delay.min(LONGEST_DELAY).max(1),
+            delay: delay.clamp(1, LONGEST_DELAY),
             silence: 0,
         }
     }

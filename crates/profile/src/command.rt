@@ -3,7 +3,7 @@ ghost use Rattle.std.specs.Prelude.{◌≡◌};
 ghost use Rattle.profile.specs.Commands.{command_number, command_of, reset_bit};
 
 // A command, numbered in the order of the table of moves.
-#[derive(Clone, Copy)]
+#[derive(Clone, Copy, Debug, PartialEq, Eq)]
 pub enum Command {
     Shutdown = 0,
     SwitchOn = 1,
@@ -12,14 +12,17 @@ pub enum Command {
     DisableVoltage = 4,
 }
 
-impl Command {
-    pub fn number(self) -> u8
-        ensures { result ≡ command_number self }
-    {
-        self as u8
-    }
+impl From<Command> for u8 {
+    ghost from_gives = { λ command number. number ≡ command_number command };
 
+    fn from(command: Command) -> u8 {
+        command as u8
+    }
+}
+
+impl Command {
     // The command in bits 0-3 of a controlword. The other bits do not matter.
+    #[tactic(auto, unfolding(crate::specs::Commands::command_of))]
     pub fn of(controlword: u16) -> Command
         ensures { result ≡ command_of controlword }
     {
@@ -34,6 +37,7 @@ impl Command {
 }
 
 // Bit 7 of a controlword, which resets a fault where it rises.
+#[tactic(auto, unfolding(crate::specs::Commands::reset_bit))]
 pub fn reset_bit(controlword: u16) -> bool
     ensures { result ≡ reset_bit controlword }
 {

@@ -6,7 +6,7 @@ ghost use Rattle.profile.specs.Status.{row_bytes};
 pub const ROW_LENGTH: usize = 13;
 
 // What the return image tells of an axis.
-#[derive(Clone, Copy)]
+#[derive(Clone, Copy, Debug, PartialEq, Eq)]
 pub struct Inputs {
     pub statusword: u16,
     pub position: i32,
@@ -17,6 +17,7 @@ pub struct Inputs {
 
 impl Inputs {
     // Statusword, position, velocity, displayed mode and error, in this order, lowest byte first.
+    #[tactic(auto, unfolding(crate::specs::Status::row_bytes))]
     pub fn row(self) -> [u8; ROW_LENGTH]
         ensures { result ≡ row_bytes self }
     {

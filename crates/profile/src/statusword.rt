@@ -5,7 +5,7 @@ ghost use Rattle.profile.specs.Status.{status_of};
 use crate::state::State;
 
 // What a statusword shows beside the state.
-#[derive(Clone, Copy)]
+#[derive(Clone, Copy, Debug, PartialEq, Eq)]
 pub struct Flags {
     // the drive has power
     pub powered: bool,
@@ -21,6 +21,7 @@ pub struct Flags {
     pub key_out: bool,
 }
 
+// The weight of a flag's bit where it is set. `u16::from(flag) << bit` is no plainer: the weights are the specification's.
 fn weight_if(set: bool, weight: u16) -> u16
     ensures { result ≡ cond set weight 0 }
 {
@@ -28,6 +29,7 @@ fn weight_if(set: bool, weight: u16) -> u16
 }
 
 // The state's pattern, and bits 4, 7, 9, 11, 12 and 14 for the flags.
+#[tactic(auto, unfolding(crate::specs::Status::status_of))]
 pub fn statusword(state: State, flags: Flags) -> u16
     ensures { result ≡ status_of state flags }
 {
