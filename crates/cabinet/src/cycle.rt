@@ -1,8 +1,7 @@
 // The cycle.
-ghost use Rattle.std.specs.Prelude.{◌≡◌, ◌*◌, ◌<◌, ◌≤◌, length};
+ghost use Rattle.std.specs.Prelude.{◌≡◌, ◌*◌, ◌<◌, ◌≤◌, Ok, Err, length};
 ghost use Rattle.fieldbus.specs.AlStates.{al_status};
 ghost use Rattle.axes.specs.Steps.{Cycles};
-ghost use Rattle.cabinet.specs.declared.cycle.CycleAnswer.TheVariants.{Accepted};
 ghost use Rattle.cabinet.specs.Cabinets.{standing, axis_count, stepped, OneStep};
 ghost use Rattle.cabinet.specs.Cycles.{answer_number, checked, heard_by, after_hearing, line_read, rest_read, WholeFrame, cycle_brings, after_cycle, row_of, rows_of, image_of, unless_refused};
 
@@ -15,27 +14,33 @@ use fieldbus::frame::FrameReader;
 use fieldbus::layout::Layout;
 use profile::image::ROW_LENGTH;
 
-// What a cycle answers: it was accepted, or which length is wrong.
-#[derive(Clone, Copy)]
-pub enum CycleAnswer {
-    Accepted = 0,
-    RecordsLength = 1,
-    FrameLength = 2,
-    ImageLength = 3,
+// Why a cycle is refused: which length is wrong. The numbers are those of a cycle's answer.
+#[derive(Clone, Copy, Debug, PartialEq, Eq)]
+pub enum WrongLength {
+    Records = 1,
+    Frame = 2,
+    Image = 3,
 }
 
-impl CycleAnswer {
-    pub fn number(self) -> u8
-        ensures { result ≡ answer_number self }
-    {
-        self as u8
+impl From<WrongLength> for u8 {
+    ghost from_gives = { λ wrong r. r ≡ answer_number (Err wrong) };
+
+    fn from(wrong: WrongLength) -> u8 {
+        wrong as u8
     }
+}
+
+// The number of a cycle's answer, 0 where the cycle was accepted.
+pub fn answer_number(answer: Result<(), WrongLength>) -> u8
+    ensures { result ≡ answer_number answer }
+{
+    answer.err().map_or(0, u8::from)
 }
 
 // A cycle's answer, and AL status after it.
 #[derive(Clone, Copy)]
 pub struct Cycled {
-    pub answer: CycleAnswer,
+    pub answer: Result<(), WrongLength>,
     pub status: u16,
 }
 
@@ -56,10 +61,7 @@ fn line_for(heard: Heard, reader: &mut FrameReader<'_>, layout: Layout) -> Line
     ensures steps { reader.new.rest.now ≡ rest_read heard layout reader.old.rest.now }
 {
     match heard {
-        Heard::Frame => match reader.part(layout) {
-            Some(part) => Line::Acts(part),
-            None => Line::Quiet,
-        },
+        Heard::Frame => reader.part(layout).map_or(Line::Quiet, Line::Acts),
         Heard::RunOut => Line::RunsOut,
         Heard::Nothing => Line::Quiet,
     }
@@ -67,18 +69,18 @@ fn line_for(heard: Heard, reader: &mut FrameReader<'_>, layout: Layout) -> Line
 
 impl<B: Bank> Cabinet<B> {
     // Checks the lengths of the records, the frame and the return image, in this order.
-    fn checked(&self, records: usize, frame: usize, image: usize) -> CycleAnswer
+    fn checked(&self, records: usize, frame: usize, image: usize) -> Result<(), WrongLength>
         ensures { result ≡ checked records frame image (standing (B.meanings self.now.bank) self.now) }
     {
         let needed = self.needed_lengths();
         if records != RECORD_LENGTH * usize::from(self.axis_count()) {
-            CycleAnswer::RecordsLength
+            Err(WrongLength::Records)
         } else if frame != 0 && frame != needed.output {
-            CycleAnswer::FrameLength
+            Err(WrongLength::Frame)
         } else if image != needed.input {
-            CycleAnswer::ImageLength
+            Err(WrongLength::Image)
         } else {
-            CycleAnswer::Accepted
+            Ok(())
         }
     }
 
@@ -161,7 +163,7 @@ impl<B: Bank> Cabinet<B> {
 
     // An accepted cycle.
     fn run(&mut self, frame: &[u8], records: &[u8], image: &mut [u8])
-        requires { checked (length records.now) (length frame.now) (length image.old) (standing (B.meanings self.old.bank) self.old) ≡ Accepted }
+        requires { checked (length records.now) (length frame.now) (length image.old) (standing (B.meanings self.old.bank) self.old) ≡ Ok tt }
         ensures stands { standing (B.meanings self.new.bank) self.new ≡ after_cycle frame.now records.now (standing (B.meanings self.old.bank) self.old) }
         ensures image_written_whole { image.new ≡ image_of (standing (B.meanings self.new.bank) self.new) }
     {
@@ -179,9 +181,8 @@ impl<B: Bank> Cabinet<B> {
         ensures image_written_whole { image.new ≡ unless_refused result.answer (image_of (standing (B.meanings self.new.bank) self.new)) image.old }
     {
         let answer = self.checked(records.len(), frame.len(), image.len());
-        match answer {
-            CycleAnswer::Accepted => self.run(frame, records, image),
-            CycleAnswer::RecordsLength | CycleAnswer::FrameLength | CycleAnswer::ImageLength => {}
+        if answer.is_ok() {
+            self.run(frame, records, image);
         }
         Cycled {
             answer,
