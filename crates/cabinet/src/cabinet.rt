@@ -13,7 +13,8 @@ use fieldbus::watch::Watch;
 use profile::state::State;
 
 // A cabinet over a bank of drives. Axis i is drive i of the bank; a larger bank has its first 8 drives as axes, and the
-// others are left alone once the cabinet is made.
+// others are left alone once the cabinet is made. Contracts read it by its standing, not by a model: a model's value is
+// data, and what a drive means holds functions.
 #[derive(Drop)]
 pub struct Cabinet<B> {
     pub(crate) number: u32,
@@ -42,7 +43,7 @@ impl<B: Bank> Cabinet<B> {
     // Makes a cabinet with its number and its delay, which is brought into 1 to 60,000 cycles. Every drive of the bank
     // loses its power.
     pub fn new(bank: B, number: u32, delay: u16) -> Cabinet<B>
-        ensures { standing (B.meanings result.bank) result ≡ made number delay (B.meanings bank) }
+        ensures { standing B.meanings result ≡ made number delay (B.meanings bank) }
     {
         let mut bank = bank;
         de_energise_all(&mut bank);
@@ -109,7 +110,7 @@ impl<B: Bank> Cabinet<B> {
 
     // What is shown of an axis, none beyond the axes.
     pub fn axis(&self, number: u8) -> Option<ShownAxis>
-        ensures { result ≡ shown_at (standing (B.meanings self.now.bank) self.now) number }
+        ensures { result ≡ shown_at (standing B.meanings self.now) number }
     {
         if number >= self.axis_count() {
             return None;

@@ -70,7 +70,7 @@ fn line_for(heard: Heard, reader: &mut FrameReader<'_>, layout: Layout) -> Line
 impl<B: Bank> Cabinet<B> {
     // Checks the lengths of the records, the frame and the return image, in this order.
     fn checked(&self, records: usize, frame: usize, image: usize) -> Result<(), WrongLength>
-        ensures { result ≡ checked records frame image (standing (B.meanings self.now.bank) self.now) }
+        ensures { result ≡ checked records frame image (standing B.meanings self.now) }
     {
         let needed = self.needed_lengths();
         if records != RECORD_LENGTH * usize::from(self.axis_count()) {
@@ -86,8 +86,8 @@ impl<B: Bank> Cabinet<B> {
 
     // Hears what the line brings: in Operational a frame ends the silence, and a cycle without one counts.
     fn hear(&mut self, came: bool) -> Heard
-        ensures brings { result ≡ heard_by came (standing (B.meanings self.old.bank) self.old) }
-        ensures stands { standing (B.meanings self.new.bank) self.new ≡ after_hearing came (standing (B.meanings self.old.bank) self.old) }
+        ensures brings { result ≡ heard_by came (standing B.meanings self.old) }
+        ensures stands { standing B.meanings self.new ≡ after_hearing came (standing B.meanings self.old) }
     {
         if !self.is_operational() {
             return Heard::Nothing;
@@ -106,7 +106,7 @@ impl<B: Bank> Cabinet<B> {
     // One axis steps: its record is lent to the step, beside the bank.
     fn step(&mut self, number: u8, record: &[u8; RECORD_LENGTH], line: Line)
         requires { number < 8 }
-        ensures { OneStep number (Cycles line «record».now) (standing (B.meanings self.old.bank) self.old) (standing (B.meanings self.new.bank) self.new) }
+        ensures { OneStep number (Cycles line «record».now) (standing B.meanings self.old) (standing B.meanings self.new) }
     {
         self.table.axes[usize::from(number)].cycle(&mut self.bank, number, record, line);
     }
@@ -115,7 +115,7 @@ impl<B: Bank> Cabinet<B> {
     fn step_all(&mut self, heard: Heard, frame: &[u8], records: &[u8])
         requires whole_frame { WholeFrame heard frame.now self.old.table.axes (axis_count (B.meanings self.old.bank)) }
         requires all_records { length records.now ≡ 12 * axis_count (B.meanings self.old.bank) }
-        ensures { standing (B.meanings self.new.bank) self.new ≡ stepped (cycle_brings heard frame.now records.now (standing (B.meanings self.old.bank) self.old)) (standing (B.meanings self.old.bank) self.old) }
+        ensures { standing B.meanings self.new ≡ stepped (cycle_brings heard frame.now records.now (standing B.meanings self.old)) (standing B.meanings self.old) }
     {
         let (each, _) = records.as_chunks::<RECORD_LENGTH>();
         let mut reader = FrameReader::new(frame);
@@ -129,7 +129,7 @@ impl<B: Bank> Cabinet<B> {
     // The row of an axis in the return image.
     fn row(&self, number: u8) -> [u8; ROW_LENGTH]
         requires { number < 8 }
-        ensures { result ≡ row_of (standing (B.meanings self.now.bank) self.now) number }
+        ensures { result ≡ row_of (standing B.meanings self.now) number }
     {
         let held = self.bank.held_at(number);
         let operational = self.is_operational();
@@ -141,7 +141,7 @@ impl<B: Bank> Cabinet<B> {
     // Writes the rows of the first axes, one after the other.
     fn write_rows(&self, count: u8, image: &mut [u8])
         requires { (count ≤ 8) × (length image.old ≡ 13 * count) }
-        ensures { image.new ≡ rows_of (standing (B.meanings self.now.bank) self.now) count }
+        ensures { image.new ≡ rows_of (standing B.meanings self.now) count }
     {
         for axis in 0..count {
             let at = ROW_LENGTH * usize::from(axis);
@@ -153,7 +153,7 @@ impl<B: Bank> Cabinet<B> {
     // Writes the return image whole: the rows in SafeOp and Operational, otherwise zeros.
     fn write_image(&self, image: &mut [u8])
         requires { length image.old ≡ 13 * axis_count (B.meanings self.now.bank) }
-        ensures { image.new ≡ image_of (standing (B.meanings self.now.bank) self.now) }
+        ensures { image.new ≡ image_of (standing B.meanings self.now) }
     {
         match self.al.state {
             AlState::SafeOp | AlState::Op => self.write_rows(self.axis_count(), image),
@@ -163,9 +163,9 @@ impl<B: Bank> Cabinet<B> {
 
     // An accepted cycle.
     fn run(&mut self, frame: &[u8], records: &[u8], image: &mut [u8])
-        requires { checked (length records.now) (length frame.now) (length image.old) (standing (B.meanings self.old.bank) self.old) ≡ Ok tt }
-        ensures stands { standing (B.meanings self.new.bank) self.new ≡ after_cycle frame.now records.now (standing (B.meanings self.old.bank) self.old) }
-        ensures image_written_whole { image.new ≡ image_of (standing (B.meanings self.new.bank) self.new) }
+        requires { checked (length records.now) (length frame.now) (length image.old) (standing B.meanings self.old) ≡ Ok tt }
+        ensures stands { standing B.meanings self.new ≡ after_cycle frame.now records.now (standing B.meanings self.old) }
+        ensures image_written_whole { image.new ≡ image_of (standing B.meanings self.new) }
     {
         let heard = self.hear(!frame.is_empty());
         self.step_all(heard, frame, records);
@@ -175,10 +175,10 @@ impl<B: Bank> Cabinet<B> {
     // A cycle: a frame, empty where none came, a field record for each axis, and the return image, of which an accepted
     // cycle writes every byte. A refused cycle changes nothing.
     pub fn cycle(&mut self, frame: &[u8], records: &[u8], image: &mut [u8]) -> Cycled
-        ensures answers { result.answer ≡ checked (length records.now) (length frame.now) (length image.old) (standing (B.meanings self.old.bank) self.old) }
+        ensures answers { result.answer ≡ checked (length records.now) (length frame.now) (length image.old) (standing B.meanings self.old) }
         ensures al_status { result.status ≡ al_status self.new.al }
-        ensures stands { standing (B.meanings self.new.bank) self.new ≡ unless_refused result.answer (after_cycle frame.now records.now (standing (B.meanings self.old.bank) self.old)) (standing (B.meanings self.old.bank) self.old) }
-        ensures image_written_whole { image.new ≡ unless_refused result.answer (image_of (standing (B.meanings self.new.bank) self.new)) image.old }
+        ensures stands { standing B.meanings self.new ≡ unless_refused result.answer (after_cycle frame.now records.now (standing B.meanings self.old)) (standing B.meanings self.old) }
+        ensures image_written_whole { image.new ≡ unless_refused result.answer (image_of (standing B.meanings self.new)) image.old }
     {
         let answer = self.checked(records.len(), frame.len(), image.len());
         if answer.is_ok() {

@@ -19,7 +19,7 @@ pub struct AlAnswer {
 impl<B: Bank> Cabinet<B> {
     // The lengths that this cabinet needs: a part for each axis, and a row of the return image for each.
     pub(crate) fn needed_lengths(&self) -> Lengths
-        ensures { result ≡ needed_lengths (standing (B.meanings self.now.bank) self.now) }
+        ensures { result ≡ needed_lengths (standing B.meanings self.now) }
     {
         let axes = usize::from(self.axis_count());
         Lengths {
@@ -30,21 +30,21 @@ impl<B: Bank> Cabinet<B> {
 
     fn begin_stay_of(&mut self, number: u8)
         requires { number < 8 }
-        ensures { OneStep number StayBegins (standing (B.meanings self.old.bank) self.old) (standing (B.meanings self.new.bank) self.new) }
+        ensures { OneStep number StayBegins (standing B.meanings self.old) (standing B.meanings self.new) }
     {
         self.table.axes[usize::from(number)].begin_stay();
     }
 
     fn lose_line_of(&mut self, number: u8)
         requires { number < 8 }
-        ensures { OneStep number LineLost (standing (B.meanings self.old.bank) self.old) (standing (B.meanings self.new.bank) self.new) }
+        ensures { OneStep number LineLost (standing B.meanings self.old) (standing B.meanings self.new) }
     {
         self.table.axes[usize::from(number)].lose_line(&mut self.bank, number);
     }
 
     // A stay in Operational begins, for every axis.
     fn begin_stay(&mut self)
-        ensures { standing (B.meanings self.new.bank) self.new ≡ stepped (λ i. StayBegins) (standing (B.meanings self.old.bank) self.old) }
+        ensures { standing B.meanings self.new ≡ stepped (λ i. StayBegins) (standing B.meanings self.old) }
     {
         for number in 0..self.axis_count() {
             self.begin_stay_of(number);
@@ -53,7 +53,7 @@ impl<B: Bank> Cabinet<B> {
 
     // The line is lost, for every axis.
     fn lose_line(&mut self)
-        ensures { standing (B.meanings self.new.bank) self.new ≡ stepped (λ i. LineLost) (standing (B.meanings self.old.bank) self.old) }
+        ensures { standing B.meanings self.new ≡ stepped (λ i. LineLost) (standing B.meanings self.old) }
     {
         for number in 0..self.axis_count() {
             self.lose_line_of(number);
@@ -63,7 +63,7 @@ impl<B: Bank> Cabinet<B> {
     // What a change of AL from a state to the present one does: entering Operational from SafeOp begins a stay, leaving it
     // is a loss of the line.
     fn pass_from(&mut self, before: AlState)
-        ensures { standing (B.meanings self.new.bank) self.new ≡ passed (passage before self.old.al.state) (standing (B.meanings self.old.bank) self.old) }
+        ensures { standing B.meanings self.new ≡ passed (passage before self.old.al.state) (standing B.meanings self.old) }
     {
         match (before, self.al.state) {
             (AlState::SafeOp, AlState::Op) => {
@@ -77,8 +77,8 @@ impl<B: Bank> Cabinet<B> {
 
     // An AL request: a control word, and the lengths of outputs and inputs that the master counts on.
     pub fn request(&mut self, control: u16, output: u16, input: u16) -> AlAnswer
-        ensures stands { standing (B.meanings self.new.bank) self.new ≡ after_request control output input (standing (B.meanings self.old.bank) self.old) }
-        ensures answers { result ≡ answer_of (after_request control output input (standing (B.meanings self.old.bank) self.old)) }
+        ensures stands { standing B.meanings self.new ≡ after_request control output input (standing B.meanings self.old) }
+        ensures answers { result ≡ answer_of (after_request control output input (standing B.meanings self.old)) }
     {
         let offered = Lengths {
             output: usize::from(output),

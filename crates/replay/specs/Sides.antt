@@ -21,7 +21,7 @@ use Rattle.replay.specs.declared.side.Side.{Side}
 
 -- How a cabinet over a configured bank stands.
 abbrev pub cabinet_stands : Cabinet (Row (Stack AnyMake)) → Standing
-cabinet_stands cabinet = standing (bank_is cabinet.bank) cabinet
+cabinet_stands cabinet = standing bank_is cabinet
 
 abbrev pub side_stands : Side → Standing
 side_stands side = cabinet_stands side.cabinet

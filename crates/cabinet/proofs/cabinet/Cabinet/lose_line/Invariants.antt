@@ -7,4 +7,4 @@ abbrev pub invariant-loop-number : goal.invariant-loop-number
 invariant-loop-number g l =
     let meanings = g.B.Bank.meanings in
     FirstStep l.number (λ i. LineLost)
-    (standing (meanings l.initial.self.bank) l.initial.self) (standing (meanings l.self.bank) l.self)
+    (standing meanings l.initial.self) (standing meanings l.self)

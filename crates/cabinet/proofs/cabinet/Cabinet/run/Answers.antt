@@ -7,8 +7,8 @@ use Rattle.cabinet.proofs.cabinet.Cabinet.run.Goals as goal
 
 pub write_image-requires : goal.write_image-requires
 write_image-requires g c =
-    let before : Standing = standing (g.B.Bank.meanings c.args.self.now.bank) c.args.self.now in
-    let heard : Standing = standing (g.B.Bank.meanings c.hear-heard.new.self.bank) c.hear-heard.new.self in
+    let before : Standing = standing g.B.Bank.meanings c.args.self.now in
+    let heard : Standing = standing g.B.Bank.meanings c.hear-heard.new.self in
     let brings : ℕ → Event = cycle_brings c.hear-heard.result c.args.frame.now c.args.records.now heard in
     let same : axis_count (g.B.Bank.meanings c.step_all.new.self.bank) ≡ axis_count before.drives =
     ap (λ (s : Standing). axis_count s.drives) c.step_all.ensures

@@ -10,7 +10,7 @@ use Rattle.cabinet.proofs.cabinet.Cabinet.step_all.Goals as goal
 
 pub loop-number-init : goal.loop-number-init
 loop-number-init g c =
-    let before : Standing = standing (g.B.Bank.meanings c.args.self.now.bank) c.args.self.now in (
+    let before : Standing = standing g.B.Bank.meanings c.args.self.now in (
       no_step (cycle_brings c.args.heard c.args.frame.now c.args.records.now before) before,
       read_none c.args.heard c.args.frame.now before.axes c.new-reader.result.rest.now c.new-reader.ensures,
     )
@@ -20,9 +20,9 @@ loop-number-preserved g c =
     let heard = c.args.heard in
     let frame : List ℕ = c.args.frame.now in
     let records : List ℕ = c.args.records.now in
-    let before : Standing = standing (g.B.Bank.meanings c.args.self.now.bank) c.args.self.now in
-    let present : Standing = standing (g.B.Bank.meanings c.loop-number.self.bank) c.loop-number.self in
-    let after : Standing = standing (g.B.Bank.meanings c.step.new.self.bank) c.step.new.self in
+    let before : Standing = standing g.B.Bank.meanings c.args.self.now in
+    let present : Standing = standing g.B.Bank.meanings c.loop-number.self in
+    let after : Standing = standing g.B.Bank.meanings c.step.new.self in
     let brings : ℕ → Event = cycle_brings heard frame records before in
     let i : ℕ = c.loop-number.number in
     let n : ℕ = axis_count before.drives in

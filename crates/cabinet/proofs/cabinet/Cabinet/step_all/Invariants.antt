@@ -6,6 +6,6 @@ use Rattle.cabinet.proofs.cabinet.Cabinet.step_all.Given as goal
 
 abbrev pub invariant-loop-number : goal.invariant-loop-number
 invariant-loop-number g l =
-    let before = standing (g.B.Bank.meanings l.initial.self.bank) l.initial.self in
-    FirstStep l.number (cycle_brings l.heard l.frame l.initial.records before) before (standing (g.B.Bank.meanings l.self.bank) l.self)
+    let before = standing g.B.Bank.meanings l.initial.self in
+    FirstStep l.number (cycle_brings l.heard l.frame l.initial.records before) before (standing g.B.Bank.meanings l.self)
     × ReaderAt l.heard l.frame before.axes l.number l.reader.rest.now

@@ -5,4 +5,4 @@ use Rattle.cabinet.proofs.cabinet.Cabinet.write_rows.Given as goal
 
 abbrev pub invariant-loop-axis : goal.invariant-loop-axis
 invariant-loop-axis g l =
-    l.image ≡ rows_of (standing (g.B.Bank.meanings l.self.bank) l.self) l.axis ++ drop (13 * l.axis) l.initial.image
+    l.image ≡ rows_of (standing g.B.Bank.meanings l.self) l.axis ++ drop (13 * l.axis) l.initial.image
