@@ -102,10 +102,7 @@ impl<B: Bank> Cabinet<B> {
     pub fn is_operational(&self) -> bool
         ensures { result ≡ operational self.now.al }
     {
-        match self.al.state {
-            AlState::Op => true,
-            AlState::Init | AlState::PreOp | AlState::SafeOp => false,
-        }
+        matches!(self.al.state, AlState::Op)
     }
 
     // What is shown of an axis, none beyond the axes.

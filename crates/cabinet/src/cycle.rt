@@ -1,11 +1,11 @@
 // The cycle.
 ghost use Rattle.std.specs.Prelude.{◌≡◌, ◌*◌, ◌<◌, ◌≤◌, Ok, Err, length};
 ghost use Rattle.fieldbus.specs.AlStates.{al_status};
-ghost use Rattle.axes.specs.Steps.{Cycles};
-ghost use Rattle.cabinet.specs.Cabinets.{standing, axis_count, stepped, OneStep};
+ghost use Rattle.cabinet.specs.Cabinets.{standing, axis_count, stepped};
 ghost use Rattle.cabinet.specs.Cycles.{answer_number, checked, heard_by, after_hearing, line_read, rest_read, WholeFrame, cycle_brings, after_cycle, row_of, rows_of, image_of, unless_refused};
 
 use crate::cabinet::Cabinet;
+use crate::step::Event;
 use axes::axis::Line;
 use banks::bank::Bank;
 use drives::drive::RECORD_LENGTH;
@@ -103,16 +103,8 @@ impl<B: Bank> Cabinet<B> {
         Heard::Nothing
     }
 
-    // One axis steps: its record is lent to the step, beside the bank.
-    fn step(&mut self, number: u8, record: &[u8; RECORD_LENGTH], line: Line)
-        requires { number < 8 }
-        ensures { OneStep number (Cycles line «record».now) (standing B.meanings self.old) (standing B.meanings self.new) }
-    {
-        self.table.axes[usize::from(number)].cycle(&mut self.bank, number, record, line);
-    }
-
-    // Every axis steps, one after the other.
-    fn step_all(&mut self, heard: Heard, frame: &[u8], records: &[u8])
+    // Every axis steps through its part of the cycle, one after the other.
+    fn cycle_each(&mut self, heard: Heard, frame: &[u8], records: &[u8])
         requires whole_frame { WholeFrame heard frame.now self.old.table.axes (axis_count (B.meanings self.old.bank)) }
         requires all_records { length records.now ≡ 12 * axis_count (B.meanings self.old.bank) }
         ensures { standing B.meanings self.new ≡ stepped (cycle_brings heard frame.now records.now (standing B.meanings self.old)) (standing B.meanings self.old) }
@@ -122,7 +114,7 @@ impl<B: Bank> Cabinet<B> {
         for number in 0..self.axis_count() {
             let at = usize::from(number);
             let line = line_for(heard, &mut reader, self.table.axes[at].layout);
-            self.step(number, &each[at], line);
+            self.step(number, Event::Cycle(line, &each[at]));
         }
     }
 
@@ -168,7 +160,7 @@ impl<B: Bank> Cabinet<B> {
         ensures image_written_whole { image.new ≡ image_of (standing B.meanings self.new) }
     {
         let heard = self.hear(!frame.is_empty());
-        self.step_all(heard, frame, records);
+        self.cycle_each(heard, frame, records);
         self.write_image(image);
     }
 

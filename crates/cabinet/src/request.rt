@@ -1,10 +1,10 @@
 // The AL request.
-ghost use Rattle.std.specs.Prelude.{◌≡◌, ◌<◌};
-ghost use Rattle.axes.specs.Steps.{StayBegins, LineLost};
-ghost use Rattle.cabinet.specs.Cabinets.{standing, stepped, OneStep};
+ghost use Rattle.std.specs.Prelude.{◌≡◌};
+ghost use Rattle.cabinet.specs.Cabinets.{standing};
 ghost use Rattle.cabinet.specs.Requests.{needed_lengths, passage, passed, after_request, answer_of};
 
 use crate::cabinet::Cabinet;
+use crate::step::Event;
 use banks::bank::Bank;
 use fieldbus::al::{AlState, Lengths};
 use profile::image::ROW_LENGTH;
@@ -28,38 +28,6 @@ impl<B: Bank> Cabinet<B> {
         }
     }
 
-    fn begin_stay_of(&mut self, number: u8)
-        requires { number < 8 }
-        ensures { OneStep number StayBegins (standing B.meanings self.old) (standing B.meanings self.new) }
-    {
-        self.table.axes[usize::from(number)].begin_stay();
-    }
-
-    fn lose_line_of(&mut self, number: u8)
-        requires { number < 8 }
-        ensures { OneStep number LineLost (standing B.meanings self.old) (standing B.meanings self.new) }
-    {
-        self.table.axes[usize::from(number)].lose_line(&mut self.bank, number);
-    }
-
-    // A stay in Operational begins, for every axis.
-    fn begin_stay(&mut self)
-        ensures { standing B.meanings self.new ≡ stepped (λ i. StayBegins) (standing B.meanings self.old) }
-    {
-        for number in 0..self.axis_count() {
-            self.begin_stay_of(number);
-        }
-    }
-
-    // The line is lost, for every axis.
-    fn lose_line(&mut self)
-        ensures { standing B.meanings self.new ≡ stepped (λ i. LineLost) (standing B.meanings self.old) }
-    {
-        for number in 0..self.axis_count() {
-            self.lose_line_of(number);
-        }
-    }
-
     // What a change of AL from a state to the present one does: entering Operational from SafeOp begins a stay, leaving it
     // is a loss of the line.
     fn pass_from(&mut self, before: AlState)
@@ -68,9 +36,11 @@ impl<B: Bank> Cabinet<B> {
         match (before, self.al.state) {
             (AlState::SafeOp, AlState::Op) => {
                 self.watch.restart();
-                self.begin_stay();
+                self.step_each(Event::StayBegins);
             }
-            (AlState::Op, AlState::Init | AlState::PreOp | AlState::SafeOp) => self.lose_line(),
+            (AlState::Op, AlState::Init | AlState::PreOp | AlState::SafeOp) => {
+                self.step_each(Event::LineLost)
+            }
             _ => {}
         }
     }

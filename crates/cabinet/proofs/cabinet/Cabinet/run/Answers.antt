@@ -10,8 +10,8 @@ write_image-requires g c =
     let before : Standing = standing g.B.Bank.meanings c.args.self.now in
     let heard : Standing = standing g.B.Bank.meanings c.hear-heard.new.self in
     let brings : ℕ → Event = cycle_brings c.hear-heard.result c.args.frame.now c.args.records.now heard in
-    let same : axis_count (g.B.Bank.meanings c.step_all.new.self.bank) ≡ axis_count before.drives =
-    ap (λ (s : Standing). axis_count s.drives) c.step_all.ensures
+    let same : axis_count (g.B.Bank.meanings c.cycle_each.new.self.bank) ≡ axis_count before.drives =
+    ap (λ (s : Standing). axis_count s.drives) c.cycle_each.ensures
     ∙ stepped_count brings heard
     ∙ ap (λ (s : Standing). axis_count s.drives) c.hear-heard.ensures.stands in
     rw same (search rules)

@@ -2,7 +2,7 @@ use Rattle.cabinet.specs.Cabinets.{standing}
 use Rattle.cabinet.specs.Cycles.{cycle_brings}
 use Rattle.cabinet.proofs.Steps.{FirstStep}
 use Rattle.cabinet.proofs.Reading.{ReaderAt}
-use Rattle.cabinet.proofs.cabinet.Cabinet.step_all.Given as goal
+use Rattle.cabinet.proofs.cabinet.Cabinet.cycle_each.Given as goal
 
 abbrev pub invariant-loop-number : goal.invariant-loop-number
 invariant-loop-number g l =

@@ -6,7 +6,7 @@ use Rattle.cabinet.specs.Cabinets.{Standing, standing, axis_count, axis_at, OneS
 use Rattle.cabinet.specs.Cycles.{line_for, line_read, rest_read, record_of, cycle_brings}
 use Rattle.cabinet.proofs.Steps.{no_step, one_more, an_axis, axis_reads}
 use Rattle.cabinet.proofs.Reading.{ReaderAt, read_none, read_line, read_rest, chunk_at}
-use Rattle.cabinet.proofs.cabinet.Cabinet.step_all.Goals as goal
+use Rattle.cabinet.proofs.cabinet.Cabinet.cycle_each.Goals as goal
 
 pub loop-number-init : goal.loop-number-init
 loop-number-init g c =
