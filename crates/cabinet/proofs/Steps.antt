@@ -76,7 +76,8 @@ all_stepped n brings before after all steps =
     (steps.axes_step ∙ ap (λ k. axes_after k brings before.axes before.drives) all)
     (steps.drives_step ∙ ap (λ k. drives_after k brings before.axes before.drives) all)
 
--- a step adds no drive and takes none away
-pub stepped_count : (brings : ℕ → Event) (s : Standing) → axis_count (stepped brings s).drives ≡ axis_count s.drives
-stepped_count brings s =
-    ap (λ k. min k 8) (length-first (drive_step brings s.axes s.drives) s.drives (axis_count s.drives) (omega arith))
+-- steps add no drive and take none away
+pub stepped_count : (brings : ℕ → Event) (before : Standing) {after : Standing} → after ≡ stepped brings before → axis_count after.drives ≡ axis_count before.drives
+stepped_count brings before stands =
+    ap (λ (s : Standing). axis_count s.drives) stands
+    ∙ ap (λ k. min k 8) (length-first (drive_step brings before.axes before.drives) before.drives (axis_count before.drives) (omega arith))

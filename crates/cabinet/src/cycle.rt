@@ -111,10 +111,10 @@ impl<B: Bank> Cabinet<B> {
     {
         let (each, _) = records.as_chunks::<RECORD_LENGTH>();
         let mut reader = FrameReader::new(frame);
-        for number in 0..self.axis_count() {
-            let at = usize::from(number);
-            let line = line_for(heard, &mut reader, self.table.axes[at].layout);
-            self.step(number, Event::Cycle(line, &each[at]));
+        for (number, record) in (0..self.axis_count()).zip(each) {
+            let layout = self.table.axes[usize::from(number)].layout;
+            let line = line_for(heard, &mut reader, layout);
+            self.step(number, Event::Cycle(line, record));
         }
     }
 
@@ -131,6 +131,7 @@ impl<B: Bank> Cabinet<B> {
     }
 
     // Writes the rows of the first axes, one after the other.
+    #[tactic(auto, using(crate::proofs::Rows::rows_none, crate::proofs::Rows::row_written, crate::proofs::Rows::rows_written))]
     fn write_rows(&self, count: u8, image: &mut [u8])
         requires { (count ≤ 8) × (length image.old ≡ 13 * count) }
         ensures { image.new ≡ rows_of (standing B.meanings self.now) count }
@@ -154,6 +155,7 @@ impl<B: Bank> Cabinet<B> {
     }
 
     // An accepted cycle.
+    #[tactic(auto, unfolding(crate::specs::Cycles::after_cycle))]
     fn run(&mut self, frame: &[u8], records: &[u8], image: &mut [u8])
         requires { checked (length records.now) (length frame.now) (length image.old) (standing B.meanings self.old) ≡ Ok tt }
         ensures stands { standing B.meanings self.new ≡ after_cycle frame.now records.now (standing B.meanings self.old) }

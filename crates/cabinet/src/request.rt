@@ -46,6 +46,7 @@ impl<B: Bank> Cabinet<B> {
     }
 
     // An AL request: a control word, and the lengths of outputs and inputs that the master counts on.
+    #[tactic(auto, unfolding(crate::specs::Requests::after_request))]
     pub fn request(&mut self, control: u16, output: u16, input: u16) -> AlAnswer
         ensures stands { standing B.meanings self.new ≡ after_request control output input (standing B.meanings self.old) }
         ensures answers { result ≡ answer_of (after_request control output input (standing B.meanings self.old)) }

@@ -21,6 +21,7 @@ pub enum Event<'a> {
 
 impl<B: Bank> Cabinet<B> {
     // One axis steps: its record is lent to the step, beside the bank.
+    #[tactic(auto, unfolding(axes::specs::Steps::axis_under, axes::specs::Steps::drive_under))]
     pub(crate) fn step(&mut self, number: u8, event: Event<'_>)
         requires { number < 8 }
         ensures { OneStep number (brought event.entry) (standing B.meanings self.old) (standing B.meanings self.new) }
