@@ -1,12 +1,11 @@
 -- A cycle on its way from axis to axis.
 use Rattle.std.proofs.Common.{◌≡◌, ℕ, ◌+◌, ◌-◌, ◌*◌, ◌/◌, ◌<◌, ◌≤◌, List, ◌∷◌, length, drop, sym, ap, ◌∙◌, subst, arith}
 use Rattle.std.specs.Simd.{first_chunks}
-use Rattle.axes.specs.declared.axis.Axis.{Axis}
 use Rattle.axes.specs.declared.axis.Line.{Line}
 use Rattle.axes.specs.Steps.{Event, Cycles}
 use Rattle.cabinet.specs.declared.cycle.Heard.{Heard}
 use Rattle.cabinet.specs.Cabinets.{Standing, axis_count, axis_at, OneStep}
-use Rattle.cabinet.specs.Cycles.{line_for, line_read, rest_read, WholeFrame, record_of, cycle_brings}
+use Rattle.cabinet.specs.Cycles.{line_read, rest_read, WholeFrame, record_of, cycle_brings}
 use Rattle.cabinet.proofs.Steps.{FirstStep, no_step, one_more, an_axis, axis_reads}
 use Rattle.cabinet.proofs.Reading.{ReaderAt, read_none, read_line, read_rest, next_record}
 
@@ -59,19 +58,17 @@ cycle_more {heard} {frame} {records} {before} {present} {after} {i} {end} {numbe
     let a-drive : i < length before.drives = omega (arith, below) in
     let one : OneStep i (Cycles line bytes) present after = subst (λ k. OneStep k (Cycles line bytes) present after) is_i step in
     let an-axis : i < length before.axes = an_axis brought before present after i here.steps a-drive one.in_table in
-    let layout : (axis_at present.axes from).layout ≡ (axis_at before.axes i).layout =
-    ap (λ k. (axis_at present.axes k).layout) (is_number ∙ is_i)
-    ∙ ap (λ (axis : Axis). axis.layout) (axis_reads brought before present after i here.steps a-drive one.in_table) in
-    let its-line : line ≡ line_for heard frame before.axes i =
-    brings ∙ ap (λ l. line_read heard l rest) layout ∙ read_line frame before.axes i n below an-axis heard rest whole here.reads in
+    let axis : axis_at present.axes from ≡ axis_at before.axes i =
+    ap (axis_at present.axes) (is_number ∙ is_i) ∙ axis_reads brought before present after i here.steps a-drive one.in_table in
+    let reads = read_line frame before.axes i n below an-axis heard rest whole here.reads in
     let cut : (bytes ≡ record_of records i) × (others ≡ first_chunks 12 (n - (i + 1)) (drop (12 * (i + 1)) records)) =
     next_record n i records bytes others below (sym took ∙ here.records_left) in
-    let its-event : Cycles line bytes ≡ brought i =
-    ap (λ (l : Line). Cycles l bytes) its-line ∙ ap (Cycles (line_for heard frame before.axes i)) cut.0 in
+    let its-event : Cycles line bytes ≡ brought i = cc in
+    let left : unread ≡ rest_read heard (axis_at before.axes i).layout rest = cc in
     rw next_i
     record {
       steps = one_more brought before present after i here.steps a-drive (subst (λ (event : Event). OneStep i event present after) its-event one);
-      reads = subst (ReaderAt heard frame before.axes (i + 1)) (sym (goes ∙ ap (λ l. rest_read heard l rest) layout)) (read_rest frame before.axes i n below an-axis heard rest whole here.reads);
+      reads = subst (ReaderAt heard frame before.axes (i + 1)) (sym left) (read_rest frame before.axes i n below an-axis heard rest whole here.reads);
       to_the_end = same_end ∙ here.to_the_end;
       within = omega (arith, below);
       records_left = cut.1;

@@ -1,6 +1,6 @@
 -- The cycle: its refusals, what the line brings, the cabinet after it, and the return image.
-use Rattle.std.specs.Prelude.{◌≡◌, ℕ, ◌*◌, Bool, true, false, cond, not, ◌&&◌, List, [], ◌∷◌, ◌++◌, map, length, take, drop, replicate, Some, None, Ok, Err, Option, Result, ◌==◌}
-use Rattle.std.specs.List.{range_with_len}
+use Rattle.std.specs.Prelude.{◌≡◌, ℕ, ◌*◌, Bool, true, false, cond, not, ◌&&◌, List, length, take, drop, replicate, Some, None, Ok, Err, Option, Result, ◌==◌}
+use Rattle.std.specs.List.{range_with_len, flat_map}
 use Rattle.banks.specs.Lists.{drive_at}
 use Rattle.fieldbus.specs.declared.al.Al.{Al}
 use Rattle.fieldbus.specs.declared.al.AlState.{AlState}
@@ -118,13 +118,9 @@ shows_inputs Op = true
 abbrev pub row_of : Standing → ℕ → List ℕ
 row_of s i = row_bytes (inputs_of (operational s.al) (axis_at s.axes i) (drive_at s.drives i).held)
 
-abbrev pub joined : List (List ℕ) → List ℕ
-joined [] = []
-joined (row ∷ rows) = row ++ joined rows
-
 -- The rows of the first n axes.
 unfoldable pub rows_of : Standing → ℕ → List ℕ
-rows_of s n = joined (map (row_of s) (range_with_len 0 n))
+rows_of s n = flat_map (row_of s) (range_with_len 0 n)
 
 -- The return image: in SafeOp and Operational the rows of the axes, otherwise zeros.
 abbrev pub image_of : Standing → List ℕ

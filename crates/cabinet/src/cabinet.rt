@@ -25,7 +25,7 @@ pub struct Cabinet<B> {
 }
 
 // What a cabinet shows of an axis: the state and the modes, the controlword of the latest frame acted on and the refusal
-// of its target, the error, the key, and what the drive holds.
+// of its target, the error, the key, and what the drive holds. The record's layout and bit 7 are not shown.
 #[derive(Clone, Copy)]
 pub struct ShownAxis {
     pub state: State,

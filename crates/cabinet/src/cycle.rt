@@ -44,7 +44,8 @@ pub struct Cycled {
     pub status: u16,
 }
 
-// What the line brings the whole cabinet in a cycle.
+// What the line brings the whole cabinet in a cycle. Each axis's Line has its part besides: one enum generic in the part
+// would say Acts(()) here.
 #[derive(Clone, Copy)]
 pub enum Heard {
     // a frame that is acted on
@@ -130,7 +131,8 @@ impl<B: Bank> Cabinet<B> {
             .row()
     }
 
-    // Writes the rows of the first axes, one after the other.
+    // Writes the rows of the first axes, one after the other. By index, since no proof knows what a loop over chunks_mut
+    // has written.
     #[tactic(auto, using(crate::proofs::Rows::rows_none, crate::proofs::Rows::row_written, crate::proofs::Rows::rows_written))]
     fn write_rows(&self, count: u8, image: &mut [u8])
         requires { (count ≤ 8) × (length image.old ≡ 13 * count) }
