@@ -4,6 +4,6 @@ use Rattle.cabinet.specs.declared.step.Event.TheVariants as call
 use Rattle.cabinet.specs.declared.step.Event as called
 
 abbrev pub brought : called.Event → Event
-brought (call.Cycle line bytes) = Cycles line bytes.now
+brought (call.Cycles line bytes) = Cycles line bytes.now
 brought call.StayBegins = StayBegins
 brought call.LineLost = LineLost

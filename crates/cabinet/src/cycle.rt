@@ -115,7 +115,7 @@ impl<B: Bank> Cabinet<B> {
         for (number, record) in (0..self.axis_count()).zip(each) {
             let layout = self.table.axes[usize::from(number)].layout;
             let line = line_for(heard, &mut reader, layout);
-            self.step(number, Event::Cycle(line, record));
+            self.step(number, Event::Cycles(line, record));
         }
     }
 

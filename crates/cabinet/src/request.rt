@@ -9,7 +9,7 @@ use banks::bank::Bank;
 use fieldbus::al::{AlState, Lengths};
 use profile::image::ROW_LENGTH;
 
-// What an AL request answers.
+// What an AL request answers: the two numbers of the standard.
 #[derive(Clone, Copy)]
 pub struct AlAnswer {
     pub status: u16,

@@ -12,7 +12,7 @@ use drives::drive::RECORD_LENGTH;
 #[derive(Clone, Copy)]
 pub enum Event<'a> {
     // an accepted cycle, with what the line brings and the field record
-    Cycle(Line, &'a [u8; RECORD_LENGTH]),
+    Cycles(Line, &'a [u8; RECORD_LENGTH]),
     // a stay in Operational begins
     StayBegins,
     // the line is lost outside a cycle
@@ -28,7 +28,7 @@ impl<B: Bank> Cabinet<B> {
     {
         let axis = &mut self.table.axes[usize::from(number)];
         match event {
-            Event::Cycle(line, record) => axis.cycle(&mut self.bank, number, record, line),
+            Event::Cycles(line, record) => axis.cycle(&mut self.bank, number, record, line),
             Event::StayBegins => axis.begin_stay(),
             Event::LineLost => axis.lose_line(&mut self.bank, number),
         }
