@@ -2,3 +2,4 @@ mod Firsts
 mod Steps
 mod Reading
 mod Rows
+mod Cycling

@@ -1,5 +1,5 @@
 -- A frame read axis by axis, and records cut into their arrays.
-use Rattle.std.proofs.Common.{◌≡◌, ℕ, zero, suc, ◌+◌, ◌*◌, ◌<◌, ◌≤◌, true, List, length, get_or, take, drop, sum_by, refl, ap, ◌∙◌, subst, mul-zero, mul-suc, arith}
+use Rattle.std.proofs.Common.{◌≡◌, ℕ, suc, ◌+◌, ◌-◌, ◌*◌, ◌<◌, ◌≤◌, true, List, ◌∷◌, length, take, drop, sum_by, refl, ap, ◌∙◌, subst, arith}
 use Rattle.std.specs.Simd.{first_chunks}
 use Rattle.std.proofs.lemmas.List.{drop-drop, length-drop, take-take}
 use Rattle.std.proofs.lemmas.List.Sums.{sum_by_more, sum_by-take-le}
@@ -10,7 +10,7 @@ use Rattle.axes.specs.Steps.{axis_at_start}
 use Rattle.cabinet.specs.declared.cycle.Heard.{Heard}
 use Rattle.cabinet.specs.declared.cycle.Heard.TheVariants.{Frame, RunOut, Nothing}
 use Rattle.cabinet.specs.Cabinets.{axis_at, parts_before}
-use Rattle.cabinet.specs.Cycles.{line_for, line_read, rest_read, WholeFrame}
+use Rattle.cabinet.specs.Cycles.{line_for, line_read, rest_read, WholeFrame, record_of}
 
 -- the reader of a frame that is acted on stands before the part of an axis
 abbrev pub ReaderAt : Heard → List ℕ → List Axis → ℕ → List ℕ → Type 0
@@ -48,10 +48,16 @@ module _ (frame : List ℕ) (axes : List Axis) (i n : ℕ) (below : i < n) (with
   read_rest RunOut rest all here = tt
   read_rest Nothing rest all here = tt
 
--- one of the arrays that a list is cut into
-pub chunk_at : (size count i : ℕ) (xs d : List ℕ) → i < count → get_or (first_chunks size count xs) i d ≡ take size (drop (size * i) xs)
-chunk_at size zero i xs d below = absurd (omega (arith, below))
-chunk_at size (suc count) zero xs d below = rw (mul-zero size) refl
-chunk_at size (suc count) (suc i) xs d below =
-    chunk_at size count i (drop size xs) d (omega (arith, below))
-    ∙ ap (take size) (drop-drop (size * i) size xs ∙ ap (λ k. drop k xs) (omega (arith, mul-suc size i)))
+-- the next of the field records that are left
+pub next_record :
+    (n i : ℕ) (records bytes : List ℕ) (left : List (List ℕ))
+    → i < n
+    → bytes ∷ left ≡ first_chunks 12 (n - i) (drop (12 * i) records)
+    → (bytes ≡ record_of records i) × (left ≡ first_chunks 12 (n - (i + 1)) (drop (12 * (i + 1)) records))
+next_record n i records bytes left below is =
+    let more : n - i ≡ suc (n - (i + 1)) = omega (arith, below) in
+    let cut : bytes ∷ left ≡ record_of records i ∷ first_chunks 12 (n - (i + 1)) (drop 12 (drop (12 * i) records)) =
+    is ∙ ap (λ k. first_chunks 12 k (drop (12 * i) records)) more in
+    let on : drop 12 (drop (12 * i) records) ≡ drop (12 * (i + 1)) records =
+    drop-drop 12 (12 * i) records ∙ ap (λ k. drop k records) (omega arith) in
+    ((cc), let same : left ≡ first_chunks 12 (n - (i + 1)) (drop 12 (drop (12 * i) records)) = cc in same ∙ ap (first_chunks 12 (n - (i + 1))) on)

@@ -1,8 +1,8 @@
 -- One axis more has stepped.
-use Rattle.std.proofs.Common.{◌≡◌, ℕ, ◌+◌, ◌<◌, min, List, length, set, sym, refl, ap, ◌∙◌, subst, arith}
+use Rattle.std.proofs.Common.{◌≡◌, ℕ, ◌+◌, ◌<◌, min, List, length, sym, refl, ap, ◌∙◌, subst, arith}
 use Rattle.banks.specs.Lists.{absent, drive_at}
 use Rattle.axes.specs.declared.axis.Axis.{Axis}
-use Rattle.axes.specs.Steps.{axis_at_start, Event, axis_under, drive_under}
+use Rattle.axes.specs.Steps.{axis_at_start, Event}
 use Rattle.cabinet.specs.Cabinets.{Standing, axis_count, axis_at, axis_step, drive_step, axes_after, drives_after, stepped, OneStep}
 use Rattle.cabinet.proofs.Firsts.{first_none, first_reads, first_more, first_within, length-first}
 
@@ -45,38 +45,13 @@ module _ (brings : ℕ → Event) (before now after : Standing) (i : ℕ) (steps
   pub one_more : OneStep i (brings i) now after → FirstStep (i + 1) brings before after
   one_more one =
       let same-axis : axis_at now.axes i ≡ axis_at before.axes i = axis_reads one.in_table in
-      record {
-        number_stays = one.number_stays ∙ steps.number_stays;
-        al_stays = one.al_stays ∙ steps.al_stays;
-        watch_stays = one.watch_stays ∙ steps.watch_stays;
-        axes_step =
-            one.axis_steps
-            ∙ ap (λ a. set now.axes i (axis_under (brings i) a (drive_at now.drives i))) same-axis
-            ∙ ap (λ d. set now.axes i (axis_under (brings i) (axis_at before.axes i) d)) drive_reads
-            ∙ ap (λ rest. set rest i (axis_step brings before.axes before.drives i)) steps.axes_step
-            ∙ first_more (axis_step brings before.axes before.drives) before.axes i axis_at_start (an_axis one.in_table);
-        drives_step =
-            one.drive_steps
-            ∙ ap (λ a. set now.drives i (drive_under (brings i) a (drive_at now.drives i))) same-axis
-            ∙ ap (λ d. set now.drives i (drive_under (brings i) (axis_at before.axes i) d)) drive_reads
-            ∙ ap (λ rest. set rest i (drive_step brings before.axes before.drives i)) steps.drives_step
-            ∙ first_more (drive_step brings before.axes before.drives) before.drives i absent a-drive;
-      }
+      let same-drive : drive_at now.drives i ≡ drive_at before.drives i = drive_reads in
+      let more-axes = first_more (axis_step brings before.axes before.drives) before.axes i axis_at_start (an_axis one.in_table) in
+      let more-drives = first_more (drive_step brings before.axes before.drives) before.drives i absent a-drive in
+      record { number_stays = cc; al_stays = cc; watch_stays = cc; axes_step = cc; drives_step = cc }
 
-same_standing : (one other : Standing) → one.number ≡ other.number → one.al ≡ other.al → one.watch ≡ other.watch → one.axes ≡ other.axes → one.drives ≡ other.drives → one ≡ other
-same_standing one other number al watch axes drives =
-    let as-built : ◌≡◌ {A = Standing} (record { number = one.number; al = one.al; watch = one.watch; axes = one.axes; drives = one.drives }) other =
-    rw (number, al, watch, axes, drives) refl in
-    as-built
-
--- every axis has stepped
-pub all_stepped : (n : ℕ) (brings : ℕ → Event) (before after : Standing) → n ≡ axis_count before.drives → FirstStep n brings before after → after ≡ stepped brings before
-all_stepped n brings before after all steps =
-    same_standing after (stepped brings before) steps.number_stays steps.al_stays steps.watch_stays
-    (steps.axes_step ∙ ap (λ k. axes_after k brings before.axes before.drives) all)
-    (steps.drives_step ∙ ap (λ k. drives_after k brings before.axes before.drives) all)
-
--- a step adds no drive and takes none away
-pub stepped_count : (brings : ℕ → Event) (s : Standing) → axis_count (stepped brings s).drives ≡ axis_count s.drives
-stepped_count brings s =
-    ap (λ k. min k 8) (length-first (drive_step brings s.axes s.drives) s.drives (axis_count s.drives) (omega arith))
+-- steps add no drive and take none away
+pub stepped_count : (brings : ℕ → Event) (before : Standing) {after : Standing} → after ≡ stepped brings before → axis_count after.drives ≡ axis_count before.drives
+stepped_count brings before stands =
+    ap (λ (s : Standing). axis_count s.drives) stands
+    ∙ ap (λ k. min k 8) (length-first (drive_step brings before.axes before.drives) before.drives (axis_count before.drives) (omega arith))

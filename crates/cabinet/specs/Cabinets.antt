@@ -24,15 +24,15 @@ pub record Standing : Type 0 where
   -- the drives of the bank
   pub drives : List DriveMeaning
 
--- The standing of a cabinet whose bank has these drives.
-abbrev pub standing : {B : Type 0} → List DriveMeaning → Cabinet B → Standing
-standing drives cabinet =
+-- The standing of a cabinet whose bank means these drives.
+abbrev pub standing : {B : Type 0} → (B → List DriveMeaning) → Cabinet B → Standing
+standing meanings cabinet =
     record {
       number = cabinet.number;
       al = cabinet.al;
       watch = cabinet.watch;
       axes = cabinet.table.axes;
-      drives = drives;
+      drives = meanings cabinet.bank;
     }
 
 abbrev pub most_axes : ℕ

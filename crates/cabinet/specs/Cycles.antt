@@ -1,6 +1,6 @@
 -- The cycle: its refusals, what the line brings, the cabinet after it, and the return image.
-use Rattle.std.specs.Prelude.{◌≡◌, ℕ, ◌*◌, Bool, true, false, cond, not, ◌&&◌, List, [], ◌∷◌, ◌++◌, map, length, take, drop, replicate, Some, None, Option, ◌==◌}
-use Rattle.std.specs.List.{range_with_len}
+use Rattle.std.specs.Prelude.{◌≡◌, ℕ, ◌*◌, Bool, true, false, cond, not, ◌&&◌, List, length, take, drop, replicate, Some, None, Ok, Err, Option, Result, ◌==◌}
+use Rattle.std.specs.List.{range_with_len, flat_map}
 use Rattle.banks.specs.Lists.{drive_at}
 use Rattle.fieldbus.specs.declared.al.Al.{Al}
 use Rattle.fieldbus.specs.declared.al.AlState.{AlState}
@@ -17,18 +17,19 @@ use Rattle.axes.specs.declared.axis.Line.{Line}
 use Rattle.axes.specs.declared.axis.Line.TheVariants.{Acts, RunsOut, Quiet}
 use Rattle.axes.specs.Steps.{Event, Cycles}
 use Rattle.axes.specs.Seen.{inputs_of}
-use Rattle.cabinet.specs.declared.cycle.CycleAnswer.{CycleAnswer}
-use Rattle.cabinet.specs.declared.cycle.CycleAnswer.TheVariants.{Accepted, RecordsLength, FrameLength, ImageLength}
+use Rattle.cabinet.specs.declared.cycle.WrongLength.{WrongLength}
+use Rattle.cabinet.specs.declared.cycle.WrongLength.TheVariants as wrong
 use Rattle.cabinet.specs.declared.cycle.Heard.{Heard}
 use Rattle.cabinet.specs.declared.cycle.Heard.TheVariants.{Frame, RunOut, Nothing}
 use Rattle.cabinet.specs.Cabinets.{Standing, axis_count, axis_at, operational, parts_before, stepped, with_line}
 use Rattle.cabinet.specs.Requests.{row_length, needed_lengths}
 
-abbrev pub answer_number : CycleAnswer → ℕ
-answer_number Accepted = 0
-answer_number RecordsLength = 1
-answer_number FrameLength = 2
-answer_number ImageLength = 3
+-- The number of a cycle's answer: it was accepted, or which length is wrong.
+abbrev pub answer_number : Result (Unit {0}) WrongLength → ℕ
+answer_number (Ok accepted) = 0
+answer_number (Err wrong.Records) = 1
+answer_number (Err wrong.Frame) = 2
+answer_number (Err wrong.Image) = 3
 
 -- the bytes of a field record
 abbrev pub record_length : ℕ
@@ -36,13 +37,13 @@ record_length = 12
 
 -- The answer to records, a frame and a return image of these lengths: a record for each axis, no frame or a whole one, a
 -- row for each axis. The first that is wrong is answered.
-abbrev pub checked : ℕ → ℕ → ℕ → Standing → CycleAnswer
+abbrev pub checked : ℕ → ℕ → ℕ → Standing → Result (Unit {0}) WrongLength
 checked records frame image s =
     let needed = needed_lengths s in
-    cond (not (records == record_length * axis_count s.drives)) RecordsLength
-    (cond (not (frame == 0) && not (frame == needed.output)) FrameLength
-    (cond (not (image == needed.input)) ImageLength
-    Accepted))
+    cond (not (records == record_length * axis_count s.drives)) (Err wrong.Records)
+    (cond (not (frame == 0) && not (frame == needed.output)) (Err wrong.Frame)
+    (cond (not (image == needed.input)) (Err wrong.Image)
+    (Ok tt)))
 
 -- What the line brings the cabinet, with a frame or without: only in Operational is a frame acted on, or missed.
 abbrev pub heard_by : Bool → Standing → Heard
@@ -117,13 +118,9 @@ shows_inputs Op = true
 abbrev pub row_of : Standing → ℕ → List ℕ
 row_of s i = row_bytes (inputs_of (operational s.al) (axis_at s.axes i) (drive_at s.drives i).held)
 
-abbrev pub joined : List (List ℕ) → List ℕ
-joined [] = []
-joined (row ∷ rows) = row ++ joined rows
-
 -- The rows of the first n axes.
 unfoldable pub rows_of : Standing → ℕ → List ℕ
-rows_of s n = joined (map (row_of s) (range_with_len 0 n))
+rows_of s n = flat_map (row_of s) (range_with_len 0 n)
 
 -- The return image: in SafeOp and Operational the rows of the axes, otherwise zeros.
 abbrev pub image_of : Standing → List ℕ
@@ -132,8 +129,6 @@ image_of s =
     cond (shows_inputs s.al.state) (rows_of s n) (replicate (row_length * n) 0)
 
 -- What holds after an answer: the new where the cycle was accepted; a refusal leaves the old.
-abbrev pub unless_refused : {A : Type 0} → CycleAnswer → A → A → A
-unless_refused Accepted new old = new
-unless_refused RecordsLength new old = old
-unless_refused FrameLength new old = old
-unless_refused ImageLength new old = old
+abbrev pub unless_refused : {A : Type 0} → Result (Unit {0}) WrongLength → A → A → A
+unless_refused (Ok accepted) new old = new
+unless_refused (Err wrong) new old = old

@@ -13,7 +13,8 @@ use fieldbus::watch::Watch;
 use profile::state::State;
 
 // A cabinet over a bank of drives. Axis i is drive i of the bank; a larger bank has its first 8 drives as axes, and the
-// others are left alone once the cabinet is made.
+// others are left alone once the cabinet is made. Contracts read it by its standing, not by a model: a model's value is
+// data, and what a drive means holds functions.
 #[derive(Drop)]
 pub struct Cabinet<B> {
     pub(crate) number: u32,
@@ -24,7 +25,7 @@ pub struct Cabinet<B> {
 }
 
 // What a cabinet shows of an axis: the state and the modes, the controlword of the latest frame acted on and the refusal
-// of its target, the error, the key, and what the drive holds.
+// of its target, the error, the key, and what the drive holds. The record's layout and bit 7 are not shown.
 #[derive(Clone, Copy)]
 pub struct ShownAxis {
     pub state: State,
@@ -42,7 +43,7 @@ impl<B: Bank> Cabinet<B> {
     // Makes a cabinet with its number and its delay, which is brought into 1 to 60,000 cycles. Every drive of the bank
     // loses its power.
     pub fn new(bank: B, number: u32, delay: u16) -> Cabinet<B>
-        ensures { standing (B.meanings result.bank) result ≡ made number delay (B.meanings bank) }
+        ensures { standing B.meanings result ≡ made number delay (B.meanings bank) }
     {
         let mut bank = bank;
         de_energise_all(&mut bank);
@@ -101,15 +102,12 @@ impl<B: Bank> Cabinet<B> {
     pub fn is_operational(&self) -> bool
         ensures { result ≡ operational self.now.al }
     {
-        match self.al.state {
-            AlState::Op => true,
-            AlState::Init | AlState::PreOp | AlState::SafeOp => false,
-        }
+        matches!(self.al.state, AlState::Op)
     }
 
     // What is shown of an axis, none beyond the axes.
     pub fn axis(&self, number: u8) -> Option<ShownAxis>
-        ensures { result ≡ shown_at (standing (B.meanings self.now.bank) self.now) number }
+        ensures { result ≡ shown_at (standing B.meanings self.now) number }
     {
         if number >= self.axis_count() {
             return None;

@@ -4,4 +4,5 @@
 pub mod cabinet;
 pub mod cycle;
 pub mod request;
+mod step;
 mod table;

@@ -28,8 +28,8 @@ impl Table {
         ensures { result ≡ parts_before self.now.axes count }
     {
         let mut length = 0;
-        for at in 0..count {
-            length += self.axes[at].layout.length();
+        for axis in &self.axes[..count] {
+            length += axis.layout.length();
         }
         length
     }

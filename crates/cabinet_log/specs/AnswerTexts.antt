@@ -1,9 +1,8 @@
 -- What a call answers, byte by byte.
-use Rattle.std.specs.Prelude.{ℕ, ◌/◌, ◌%◌, List, [], ◌∷◌, ◌++◌, codes, decimal}
+use Rattle.std.specs.Prelude.{ℕ, ◌/◌, ◌%◌, List, [], ◌∷◌, ◌++◌, Ok, Err, Result, codes, decimal}
 use Rattle.std.specs.List.{flat_map}
-use Rattle.cabinet.specs.declared.cycle.CycleAnswer.{CycleAnswer}
-use Rattle.cabinet.specs.declared.cycle.CycleAnswer.TheVariants.{Accepted, RecordsLength, FrameLength, ImageLength}
 use Rattle.cabinet.specs.declared.cycle.Cycled.{Cycled}
+use Rattle.cabinet.specs.declared.cycle.WrongLength.{WrongLength}
 use Rattle.cabinet.specs.Cycles.{answer_number}
 use Rattle.drive_log.specs.DriveTexts.{hex_digit, word_text}
 
@@ -23,11 +22,9 @@ abbrev pub bytes_text : List ℕ → List ℕ
 bytes_text bytes = flat_map byte_text bytes
 
 -- The return image; a refused cycle has kept it.
-abbrev pub image_text : CycleAnswer → List ℕ → List ℕ
-image_text Accepted image = bytes_text image
-image_text RecordsLength image = codes "kept"
-image_text FrameLength image = codes "kept"
-image_text ImageLength image = codes "kept"
+abbrev pub image_text : Result (Unit {0}) WrongLength → List ℕ → List ℕ
+image_text (Ok accepted) image = bytes_text image
+image_text (Err wrong) image = codes "kept"
 
 -- A cycle: the number of its answer, AL status, the return image.
 abbrev pub cycle_text : Cycled → List ℕ → List ℕ

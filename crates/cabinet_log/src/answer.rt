@@ -2,7 +2,7 @@
 ghost use Rattle.std.specs.Prelude.{Some};
 ghost use Rattle.cabinet_log.specs.AnswerTexts.{build_text, bytes_text, cycle_text, request_text};
 
-use cabinet::cycle::{CycleAnswer, Cycled};
+use cabinet::cycle::{Cycled, answer_number};
 use drive_log::word::{ShownWord, hex_digit};
 use std::fmt;
 
@@ -68,16 +68,14 @@ impl<'a> fmt::Display for ShownCycle<'a> {
     ghost output = { λ c. Some (cycle_text c.cycled c.image.now) };
 
     fn fmt<W: fmt::Write>(&self, f: &mut fmt::Formatter<W>) -> fmt::Result {
-        let number = self.cycled.answer.number();
+        let number = answer_number(self.cycled.answer);
         let status = ShownWord(self.cycled.status);
         match self.cycled.answer {
-            CycleAnswer::Accepted => {
+            Ok(()) => {
                 let image = ShownBytes(self.image);
                 write!(f, "answer={number} status={status} image={image}")
             }
-            CycleAnswer::RecordsLength | CycleAnswer::FrameLength | CycleAnswer::ImageLength => {
-                write!(f, "answer={number} status={status} image=kept")
-            }
+            Err(_) => write!(f, "answer={number} status={status} image=kept"),
         }
     }
 }

@@ -13,7 +13,7 @@ use std::fmt::Write;
 
 // Adds the line of an axis to the log.
 fn write_axis<B: Bank>(cabinet: &Cabinet<B>, number: u8, log: &mut String) -> Result<(), AllocError>
-    ensures { Adds result (axis_line (standing (B.meanings cabinet.now.bank) cabinet.now) number) (string_bytes log.old) (string_bytes log.new) }
+    ensures { Adds result (axis_line (standing B.meanings cabinet.now) number) (string_bytes log.old) (string_bytes log.new) }
 {
     match cabinet.axis(number) {
         Some(axis) => {
@@ -26,7 +26,7 @@ fn write_axis<B: Bank>(cabinet: &Cabinet<B>, number: u8, log: &mut String) -> Re
 
 // Adds to the log how the cabinet stands: AL, and below it each axis.
 pub fn write_standing<B: Bank>(cabinet: &Cabinet<B>, log: &mut String) -> Result<(), AllocError>
-    ensures { Adds result (standing_text (standing (B.meanings cabinet.now.bank) cabinet.now)) (string_bytes log.old) (string_bytes log.new) }
+    ensures { Adds result (standing_text (standing B.meanings cabinet.now)) (string_bytes log.old) (string_bytes log.new) }
 {
     let al = AlLine {
         al: cabinet.al(),

@@ -1,9 +1,8 @@
 -- A cycle that was carried out is shown.
-use Rattle.std.proofs.Common.{◌≡◌, ℕ, List, ◌++◌, length, codes, decimal, refl, ap, ◌∙◌}
+use Rattle.std.proofs.Common.{◌≡◌, ℕ, List, ◌++◌, length, Ok, Err, Result, codes, decimal, refl, ap, ◌∙◌}
 use Rattle.fieldbus.specs.AlStates.{al_status}
-use Rattle.cabinet.specs.declared.cycle.CycleAnswer.{CycleAnswer}
-use Rattle.cabinet.specs.declared.cycle.CycleAnswer.TheVariants.{Accepted, RecordsLength, FrameLength, ImageLength}
 use Rattle.cabinet.specs.declared.cycle.Cycled.{Cycled}
+use Rattle.cabinet.specs.declared.cycle.WrongLength.{WrongLength}
 use Rattle.cabinet.specs.Cabinets.{Standing}
 use Rattle.cabinet.specs.Cycles.{answer_number, checked, after_cycle, image_of, unless_refused}
 use Rattle.cabinet_log.specs.AnswerTexts.{bytes_text, image_text, cycle_text}
@@ -12,11 +11,9 @@ use Rattle.calls.specs.Calls.{AskedCycle, Cycles}
 use Rattle.replay.specs.declared.side.Side.{Side}
 use Rattle.replay.specs.Sides.{side_stands, image_length, answer_to, after_call, run_out_noted, CycleFollowed, AnswerShown}
 
-image_shown : (answer : CycleAnswer) (written new old : List ℕ) → written ≡ unless_refused answer new old → image_text answer written ≡ image_text answer new
-image_shown Accepted written new old is = ap bytes_text is
-image_shown RecordsLength written new old is = refl
-image_shown FrameLength written new old is = refl
-image_shown ImageLength written new old is = refl
+image_shown : (answer : Result (Unit {0}) WrongLength) (written new old : List ℕ) → written ≡ unless_refused answer new old → image_text answer written ≡ image_text answer new
+image_shown (Ok accepted) written new old is = ap bytes_text is
+image_shown (Err wrong) written new old is = refl
 
 same_cycled : (one other : Cycled) → one.answer ≡ other.answer → one.status ≡ other.status → one ≡ other
 same_cycled one other answer status =

@@ -1,11 +1,11 @@
 -- One cabinet that follows a scenario, and the lines that show its calls.
-use Rattle.std.specs.Prelude.{◌≡◌, ℕ, ◌*◌, cond, not, ◌&&◌, List, ◌++◌, length, Some, None, string_bytes, Option}
+use Rattle.std.specs.Prelude.{◌≡◌, ℕ, ◌*◌, cond, not, ◌&&◌, List, ◌++◌, length, Some, None, string_bytes, Option, Result}
 use Rattle.drives.specs.Meaning.{DriveMeaning}
 use Rattle.fieldbus.specs.AlStates.{al_status, al_code}
 use Rattle.axes.specs.Steps.{or_else}
 use Rattle.cabinet.specs.declared.cabinet.Cabinet.{Cabinet}
-use Rattle.cabinet.specs.declared.cycle.CycleAnswer.{CycleAnswer}
 use Rattle.cabinet.specs.declared.cycle.Cycled.{Cycled}
+use Rattle.cabinet.specs.declared.cycle.WrongLength.{WrongLength}
 use Rattle.cabinet.specs.Cabinets.{Standing, standing, axis_count, operational, made}
 use Rattle.cabinet.specs.Requests.{row_length, after_request}
 use Rattle.cabinet.specs.Cycles.{checked, after_cycle, image_of, unless_refused}
@@ -21,7 +21,7 @@ use Rattle.replay.specs.declared.side.Side.{Side}
 
 -- How a cabinet over a configured bank stands.
 abbrev pub cabinet_stands : Cabinet (Row (Stack AnyMake)) → Standing
-cabinet_stands cabinet = standing (bank_is cabinet.bank) cabinet
+cabinet_stands cabinet = standing bank_is cabinet
 
 abbrev pub side_stands : Side → Standing
 side_stands side = cabinet_stands side.cabinet
@@ -36,7 +36,7 @@ image_length None s = row_length * axis_count s.drives
 image_length (Some length) s = length
 
 -- The answer to a cycle.
-abbrev pub answer_to : AskedCycle → Standing → CycleAnswer
+abbrev pub answer_to : AskedCycle → Standing → Result (Unit {0}) WrongLength
 answer_to cycle s = checked (length cycle.records) (length cycle.frame) (image_length cycle.image s) s
 
 -- The cabinet after a call.

@@ -9,7 +9,7 @@ use Rattle.cabinet_log.proofs.standing.write_standing.Goals as goal
 pub loop-number-preserved : goal.loop-number-preserved
 loop-number-preserved g c =
     let cabinet = c.args.cabinet.now in
-    let s = standing (g.B.Bank.meanings cabinet.bank) cabinet in
+    let s = standing g.B.Bank.meanings cabinet in
     let i = c.loop-number.number in
     c.in_ok-write_axis.ensures
     ∙ ap (λ log. log ++ axis_line s i) c.loop-number.invariant
@@ -19,7 +19,7 @@ pub returns : goal.returns
 returns g c =
     let cabinet = c.args.cabinet.now in
     let drives = g.B.Bank.meanings cabinet.bank in
-    let s = standing drives cabinet in
+    let s = standing g.B.Bank.meanings cabinet in
     let before = string_bytes c.args.log.now in
     let al = c.al.ensures in
     let count : c.loop-number.number ≡ axis_count drives = omega (arith, c.axis_count-number-end.ensures) in

@@ -6,5 +6,5 @@ use Rattle.cabinet_log.proofs.standing.write_standing.Given as goal
 
 abbrev pub invariant-loop-number : goal.invariant-loop-number
 invariant-loop-number g l =
-    let s = standing (g.B.Bank.meanings l.cabinet.bank) l.cabinet in
+    let s = standing g.B.Bank.meanings l.cabinet in
     string_bytes l.log ≡ string_bytes l.initial.log ++ flat_map (axis_line s) (range_with_len 0 l.number)
