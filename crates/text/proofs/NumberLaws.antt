@@ -1,12 +1,13 @@
 -- The value of digits, of which past every range one value is kept.
 use Rattle.std.proofs.Common.{◌≡◌, ℕ, ◌+◌, ◌*◌, ◌<◌, ◌≤◌, List, length, get_or, drop, Some, None, Option, sym, ap, ◌∙◌, ⊎_elim, mul-le-mul_left, mul-one, arith}
 use Rattle.std.specs.Prelude.{SomeIff}
+use Rattle.std.specs.Option.{option_and_then}
 use Rattle.std.specs.Char.{digit_value}
 use Rattle.std.proofs.lemmas.List.{at_drop_more}
 use Rattle.std.proofs.lemmas.Bool.{cases_lt}
 use Rattle.std.proofs.lemmas.Bool.Decides.{nat_tests}
 use Rattle.text.specs.Kept.{past, kept}
-use Rattle.text.specs.Numerals.{digit_in, and_then, value_after}
+use Rattle.text.specs.Numerals.{digit_in, value_after}
 
 -- The library's digits are the specification's.
 pub digit_in_is : (base b : ℕ) (o : Option ℕ) → base ≤ 16 → SomeIff o (digit_value b < base) (digit_value b) → o ≡ digit_in base b
@@ -26,4 +27,4 @@ kept_more base n d some =
 
 pub digit_more : (base n i d : ℕ) (xs : List ℕ) → i < length xs → digit_in base (get_or xs i 0) ≡ Some d → value_after base (n * base + d) (drop (i + 1) xs) ≡ value_after base n (drop i xs)
 digit_more base n i d xs lt e =
-    sym (at_drop_more (value_after base n) xs i 0 lt ∙ ap (λ o. and_then o (λ d. value_after base (n * base + d) (drop (i + 1) xs))) e)
+    sym (at_drop_more (value_after base n) xs i 0 lt ∙ ap (option_and_then (λ d. value_after base (n * base + d) (drop (i + 1) xs))) e)
