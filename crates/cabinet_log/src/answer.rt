@@ -3,7 +3,8 @@ ghost use Rattle.std.specs.Prelude.{Some};
 ghost use Rattle.cabinet_log.specs.AnswerTexts.{build_text, bytes_text, cycle_text, request_text};
 
 use cabinet::cycle::{Cycled, answer_number};
-use drive_log::word::{ShownWord, hex_digit};
+use cabinet::request::AlAnswer;
+use drive_log::word::ShownWord;
 use std::fmt;
 
 // A cabinet is built: how many axes it has, and its delay.
@@ -25,17 +26,14 @@ impl fmt::Display for ShownBuild {
 
 // An AL request: AL status and code.
 #[derive(Clone, Copy)]
-pub struct ShownRequest {
-    pub status: u16,
-    pub code: u16,
-}
+pub struct ShownRequest(pub AlAnswer);
 
 impl fmt::Display for ShownRequest {
-    ghost output = { λ a. Some (request_text a.status a.code) };
+    ghost output = { λ a. Some (request_text a.0.status a.0.code) };
 
     fn fmt<W: fmt::Write>(&self, f: &mut fmt::Formatter<W>) -> fmt::Result {
-        let status = ShownWord(self.status);
-        let code = ShownWord(self.code);
+        let status = ShownWord(self.0.status);
+        let code = ShownWord(self.0.code);
         write!(f, "status={status} code={code}")
     }
 }
@@ -48,10 +46,8 @@ impl<'a> fmt::Display for ShownBytes<'a> {
     ghost output = { λ b. Some (bytes_text b.0.now) };
 
     fn fmt<W: fmt::Write>(&self, f: &mut fmt::Formatter<W>) -> fmt::Result {
-        for byte in self.0 {
-            let high = hex_digit(u16::from(*byte) / 16);
-            let low = hex_digit(u16::from(*byte));
-            write!(f, "{high}{low}")?;
+        for &byte in self.0 {
+            write!(f, "{byte:02x}")?;
         }
         Ok(())
     }

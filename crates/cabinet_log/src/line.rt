@@ -28,7 +28,7 @@ impl fmt::Display for AlLine {
     }
 }
 
-// The name of a state.
+// The name of a state. A Display would need a wrapper round this same match, which is no plainer.
 fn state_name(state: State) -> &'static str
     ensures { result.now ≡ state_text state }
 {
@@ -48,10 +48,7 @@ fn state_name(state: State) -> &'static str
 fn refusal_number(refusal: Option<Refusal>) -> u16
     ensures { result ≡ refusal_number refusal }
 {
-    match refusal {
-        Some(refusal) => refusal.code(),
-        None => 0,
-    }
+    refusal.map_or(0, Refusal::code)
 }
 
 // What the drive profile has of an axis: the state, statusword and controlword, the modes, the error.

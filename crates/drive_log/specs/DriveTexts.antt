@@ -33,7 +33,4 @@ abbrev pub drive_text : ℕ → Held → List ℕ
 drive_text number h =
     codes "drive " ++ (decimal number
     ++ (codes " power=" ++ (power_text h.powered
-    ++ (codes " trouble=" ++ (word_text h.trouble
-    ++ (codes " position=" ++ (signed_decimal h.position
-    ++ (codes " velocity=" ++ (signed_decimal h.velocity
-    ++ (codes " target=" ++ target_text h.carried))))))))))
+    ++ (codes " " ++ held_text h))))

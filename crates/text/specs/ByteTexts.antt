@@ -1,17 +1,22 @@
 -- Byte strings: pairs of hexadecimal digits, or '-' for no bytes.
 use Rattle.std.specs.Prelude.{ℕ, ◌+◌, ◌*◌, ◌%◌, Bool, true, false, cond, not, ◌&&◌, List, [], ◌∷◌, length, is_some, is_ok, Ok, Err, vec_items, Result, Vec, ◌==◌, slice_index}
+use Rattle.std.specs.List.{list_all}
 use Rattle.std.specs.Option.{unwrap_or}
 use Rattle.text.specs.Digits.{digit_of}
 use Rattle.text.specs.declared.fault.Fault.{Fault}
 use Rattle.text.specs.declared.fault.Fault.TheVariants.{NotANumber, OutOfRange, NotBytes, OddDigits, NoMemory}
+use Rattle.hex.specs.declared.error.FromHexError.{FromHexError}
+use Rattle.hex.specs.declared.error.FromHexError.TheVariants.{InvalidHexCharacter, OddLength, InvalidStringLength, OutOfMemory}
 
 -- '-' alone
 abbrev pub is_dash : List ℕ → Bool
 is_dash word = length word == 1 && slice_index word 0 == 45
 
+abbrev pub is_digit : ℕ → Bool
+is_digit b = is_some (digit_of b)
+
 abbrev pub all_digits : List ℕ → Bool
-all_digits [] = true
-all_digits (b ∷ bs) = is_some (digit_of b) && all_digits bs
+all_digits word = list_all is_digit word
 
 abbrev pub is_odd : ℕ → Bool
 is_odd n = n % 2 == 1
@@ -53,3 +58,10 @@ memory_failed (Err e) = is_no_memory e
 -- The answer where memory may fail: only good bytes want memory.
 abbrev pub or_no_memory : Bool → Result (List ℕ) Fault → Result (List ℕ) Fault
 or_no_memory failed answer = cond (failed && is_ok answer) (Err NoMemory) answer
+
+-- What is wrong with a word that the library does not decode.
+abbrev pub fault_of : FromHexError → Fault
+fault_of (InvalidHexCharacter c index) = NotBytes
+fault_of InvalidStringLength = NotBytes
+fault_of OddLength = OddDigits
+fault_of OutOfMemory = NoMemory

@@ -1,6 +1,6 @@
 -- Numbers: decimal digits, or hexadecimal ones after '0x'.
 use Rattle.std.specs.Prelude.{ℕ, ◌+◌, ◌*◌, Bool, cond, ◌&&◌, List, [], ◌∷◌, drop, ℤ, pos, neg_ℤ, Some, None, Ok, Err, Option, Result, ◌==◌, int_le, nat_le, nat_lt, slice_index}
-use Rattle.std.specs.Option.{option_map}
+use Rattle.std.specs.Option.{option_map, option_and_then}
 use Rattle.text.specs.Digits.{digit_of}
 use Rattle.text.specs.declared.fault.Fault.{Fault}
 use Rattle.text.specs.declared.fault.Fault.TheVariants.{NotANumber, OutOfRange}
@@ -12,14 +12,10 @@ below base (Some d) = cond (nat_lt d base) (Some d) None
 abbrev pub digit_in : ℕ → ℕ → Option ℕ
 digit_in base b = below base (digit_of b)
 
-abbrev pub and_then : Option ℕ → (ℕ → Option ℕ) → Option ℕ
-and_then None f = None
-and_then (Some d) f = f d
-
 -- What digits write after the value n. A byte that is no digit of the base makes them no number.
 abbrev pub value_after : ℕ → ℕ → List ℕ → Option ℕ
 value_after base n [] = Some n
-value_after base n (b ∷ bs) = and_then (digit_in base b) (λ d. value_after base (n * base + d) bs)
+value_after base n (b ∷ bs) = option_and_then (λ d. value_after base (n * base + d) bs) (digit_in base b)
 
 -- One digit or more.
 abbrev pub digits_value : ℕ → List ℕ → Option ℕ

@@ -2,6 +2,5 @@
 #![tactic(auto)]
 
 pub mod bytes;
-mod digits;
 pub mod fault;
 pub mod numbers;

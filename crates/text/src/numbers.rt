@@ -2,26 +2,16 @@
 ghost use Rattle.std.specs.Prelude.{◌≡◌, ◌<◌, ◌≤◌};
 ghost use Rattle.std.specs.Option.{option_map};
 ghost use Rattle.text.specs.Kept.{kept, kept_integer};
-ghost use Rattle.text.specs.Numerals.{digit_in, digits_value, natural_of, integer_of, unsigned_of, signed_of};
+ghost use Rattle.text.specs.Numerals.{digits_value, natural_of, integer_of, unsigned_of, signed_of};
 
-use crate::digits::digit;
 use crate::fault::Fault;
 
 // Past every range that can be asked for. A larger value is kept as this one, so a text may be of any length.
 const PAST: u64 = 1 << 32;
 
-fn digit_in(base: u8, byte: u8) -> Option<u8>
-    ensures { result ≡ digit_in base byte }
-{
-    match digit(byte) {
-        Some(d) if d < base => Some(d),
-        _ => None,
-    }
-}
-
 // The value of one digit or more.
-fn digits_value(base: u8, digits: &[u8]) -> Option<u64>
-    requires some { 0 < base }
+fn digits_value(base: u32, digits: &[u8]) -> Option<u64>
+    requires some { 2 ≤ base }
     requires few { base ≤ 16 }
     ensures { result ≡ option_map kept (digits_value base digits.now) }
 {
@@ -30,8 +20,8 @@ fn digits_value(base: u8, digits: &[u8]) -> Option<u64>
     }
     let mut value = 0;
     for byte in digits {
-        let d = digit_in(base, *byte)?;
-        value = (value * u64::from(base) + u64::from(d)).min(PAST);
+        let digit = char::from(*byte).to_digit(base)?;
+        value = (value * u64::from(base) + u64::from(digit)).min(PAST);
     }
     Some(value)
 }
@@ -60,9 +50,7 @@ fn integer(word: &[u8]) -> Option<i64>
 pub fn unsigned(word: &[u8], highest: u32) -> Result<u32, Fault>
     ensures { result ≡ unsigned_of highest word.now }
 {
-    let Some(value) = natural(word) else {
-        return Err(Fault::NotANumber);
-    };
+    let value = natural(word).ok_or(Fault::NotANumber)?;
     if value > u64::from(highest) {
         return Err(Fault::OutOfRange);
     }
@@ -73,10 +61,8 @@ pub fn unsigned(word: &[u8], highest: u32) -> Result<u32, Fault>
 pub fn signed(word: &[u8], lowest: i32, highest: i32) -> Result<i32, Fault>
     ensures { result ≡ signed_of lowest highest word.now }
 {
-    let Some(value) = integer(word) else {
-        return Err(Fault::NotANumber);
-    };
-    if value < i64::from(lowest) || value > i64::from(highest) {
+    let value = integer(word).ok_or(Fault::NotANumber)?;
+    if !(i64::from(lowest)..=i64::from(highest)).contains(&value) {
         return Err(Fault::OutOfRange);
     }
     Ok(value as i32)

@@ -1,4 +1,4 @@
-use Rattle.std.proofs.Common.{◌≡◌, [], ◌∷◌, ◌++◌, string_bytes, ap, ◌∙◌, append_assoc, arith}
+use Rattle.std.proofs.Common.{◌≡◌, [], ◌∷◌, ◌++◌, string_bytes, append_assoc, arith}
 use Rattle.std.specs.List.{range_with_len, flat_map}
 use Rattle.cabinet.specs.Cabinets.{standing, axis_count}
 use Rattle.drive_log.specs.Added.{newline}
@@ -11,23 +11,13 @@ loop-number-preserved g c =
     let cabinet = c.args.cabinet.now in
     let s = standing g.B.Bank.meanings cabinet in
     let i = c.loop-number.number in
-    c.in_ok-write_axis.ensures
-    ∙ ap (λ log. log ++ axis_line s i) c.loop-number.invariant
-    ∙ joined-counting_more (axis_line s) (string_bytes c.writeln.new.self) 0 i i (omega arith)
+    cc (c.in_ok-write_axis.ensures, joined-counting_more (axis_line s) (string_bytes c.writeln.new.self) 0 i i (omega arith))
 
 pub returns : goal.returns
 returns g c =
     let cabinet = c.args.cabinet.now in
     let drives = g.B.Bank.meanings cabinet.bank in
     let s = standing g.B.Bank.meanings cabinet in
-    let before = string_bytes c.args.log.now in
-    let al = c.al.ensures in
     let count : c.loop-number.number ≡ axis_count drives = omega (arith, c.axis_count-number-end.ensures) in
     let head = al_text cabinet.al cabinet.watch.silence ++ (newline ∷ []) in
-    c.loop-number.invariant
-    ∙ ap (λ n. string_bytes c.writeln.new.self ++ flat_map (axis_line s) (range_with_len 0 n)) count
-    ∙ ap (λ log. log ++ flat_map (axis_line s) (range_with_len 0 (axis_count drives)))
-    (c.in_ok-writeln.ensures.bytes
-    ∙ ap (λ al. before ++ (al_text al c.silence.result ++ (newline ∷ []))) c.al.ensures
-    ∙ ap (λ silence. before ++ (al_text cabinet.al silence ++ (newline ∷ []))) c.silence.ensures)
-    ∙ append_assoc before head (flat_map (axis_line s) (range_with_len 0 (axis_count drives)))
+    cc (c.in_ok-writeln.ensures.bytes, append_assoc (string_bytes c.args.log.now) head (flat_map (axis_line s) (range_with_len 0 (axis_count drives))))
