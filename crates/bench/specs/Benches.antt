@@ -6,6 +6,7 @@ use Rattle.grammar.specs.declared.wrong.Wrong.TheVariants.{Word}
 use Rattle.drives.specs.declared.target.Refusal.{Refusal}
 use Rattle.drives.specs.Meaning.{DriveMeaning}
 use Rattle.banks.specs.Lists.{drive_at, changed}
+use Rattle.drive_log.specs.Added.{newline}
 use Rattle.configured.specs.declared.make.AnyMake.{AnyMake}
 use Rattle.rows.specs.declared.row.Row.{Row}
 use Rattle.rows.specs.Rows.{in_row, with_drive}
@@ -16,9 +17,6 @@ use Rattle.scenario.specs.Directives.{Said, Declares, Operates, line_says}
 use Rattle.bench.specs.declared.log.BenchLine.{BenchLine}
 use Rattle.bench.specs.Texts.{line_text}
 use Rattle.bench.specs.Operations.{operated, operation_answer}
-
-abbrev pub newline : ℕ
-newline = 10
 
 abbrev pub bank_is : Row (Stack AnyMake) → List DriveMeaning
 bank_is bank = in_row stack_is (vec_items bank.drives)

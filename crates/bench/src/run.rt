@@ -3,11 +3,11 @@ ghost use Rattle.std.specs.Prelude.{◌≡◌, [], string_bytes, MatchResult};
 ghost use Rattle.banks.specs.Lists.{drive_at, changed};
 ghost use Rattle.text.specs.declared.fault.Fault.TheVariants.{NoMemory};
 ghost use Rattle.grammar.specs.declared.wrong.Wrong.TheVariants.{Word};
-ghost use Rattle.scenario.specs.Directives.{Operates};
 ghost use Rattle.scenario.specs.Heard.{says};
 ghost use Rattle.bench.specs.Operations.{operated, operation_answer};
 ghost use Rattle.bench.specs.Benches.{bank_is, name_of, LineShows, LineFollowed};
 
+use crate::line::NumberedLine;
 use crate::log::BenchLine;
 use banks::bank::Bank;
 use configured::ConfiguredBank;
@@ -18,7 +18,6 @@ use grammar::wrong::Wrong;
 use scenario::directive::{Directive, Operation, read_directive};
 use std::alloc::Global;
 use std::fmt::Write;
-use text::fault::Fault;
 
 // Carries out an operation on the drive of a number. Only a take answers.
 fn operate<B: Bank>(bank: &mut B, number: u8, operation: Operation) -> Option<Result<(), Refusal>>
@@ -26,46 +25,33 @@ fn operate<B: Bank>(bank: &mut B, number: u8, operation: Operation) -> Option<Re
     ensures answers { result ≡ operation_answer operation (drive_at (B.meanings bank.old) number) }
 {
     match operation {
-        Operation::Energise => {
-            bank.energise_at(number);
-            None
-        }
-        Operation::DeEnergise => {
-            bank.de_energise_at(number);
-            None
-        }
-        Operation::Hold => {
-            bank.hold_at(number);
-            None
-        }
-        Operation::Sample(record) => {
-            bank.sample_at(number, &record);
-            None
-        }
-        Operation::Take(target) => Some(bank.take_at(number, target)),
+        Operation::Energise => bank.energise_at(number),
+        Operation::DeEnergise => bank.de_energise_at(number),
+        Operation::Hold => bank.hold_at(number),
+        Operation::Sample(record) => bank.sample_at(number, &record),
+        Operation::Take(target) => return Some(bank.take_at(number, target)),
     }
+    None
 }
 
 // What the drive of a number holds, where the number may be any: past 254 it is beyond every bank.
 fn held_by<B: Bank>(bank: &B, number: usize) -> Held
     ensures { result ≡ (drive_at (B.meanings bank.now) number).held }
 {
-    match u8::try_from(number) {
-        Ok(number) => bank.held_at(number),
-        Err(_) => Held::at_rest(),
-    }
+    u8::try_from(number).map_or(Held::at_rest(), |number| bank.held_at(number))
 }
 
-// The word that names an operation.
-fn name_of(operation: Operation) -> &'static str
-    ensures { result.now ≡ name_of (Operates 0 operation) }
+// The word that names a directive.
+fn name_of(directive: &Directive) -> &'static str
+    ensures { result.now ≡ name_of (says directive.now) }
 {
-    match operation {
-        Operation::Energise => "energise",
-        Operation::DeEnergise => "deenergise",
-        Operation::Hold => "hold",
-        Operation::Sample(_) => "sample",
-        Operation::Take(_) => "take",
+    match directive {
+        Directive::Drive(_) => "drive",
+        Directive::Operate(_, Operation::Energise) => "energise",
+        Directive::Operate(_, Operation::DeEnergise) => "deenergise",
+        Directive::Operate(_, Operation::Hold) => "hold",
+        Directive::Operate(_, Operation::Sample(_)) => "sample",
+        Directive::Operate(_, Operation::Take(_)) => "take",
     }
 }
 
@@ -97,16 +83,17 @@ impl Bench {
     fn carry_out(&mut self, line: u64, directive: Directive) -> Result<BenchLine, Wrong>
         ensures { MatchResult result (LineShows line (says directive) self.old.bank self.new.bank) (λ wrong. (wrong ≡ Word NoMemory) × (bank_is self.new.bank ≡ bank_is self.old.bank)) }
     {
-        let (name, answer, number) = match directive {
+        let name = name_of(&directive);
+        let (number, answer) = match directive {
             Directive::Drive(drive) => {
                 let number = self.bank.len();
                 self.bank.push(drive)?;
-                ("drive", None, number)
+                (number, None)
             }
-            Directive::Operate(number, operation) => {
-                let answer = operate(&mut self.bank, number, operation);
-                (name_of(operation), answer, usize::from(number))
-            }
+            Directive::Operate(number, operation) => (
+                usize::from(number),
+                operate(&mut self.bank, number, operation),
+            ),
         };
         let held = held_by(&self.bank, number);
         Ok(BenchLine {
@@ -117,24 +104,20 @@ impl Bench {
         })
     }
 
-    // Follows a line of the scenario, given with its number and without its newline, and adds what it shows to the log.
-    // A wrong line does nothing and shows nothing.
+    // Follows a line of the scenario, and adds what it shows to the log. A wrong line does nothing and shows nothing.
     pub fn follow(
         &mut self,
         heap: Global,
-        number: u64,
-        line: &[u8],
+        line: NumberedLine<'_>,
         log: &mut String,
     ) -> Result<(), Wrong>
-        ensures { LineFollowed number line.now self.old.bank self.new.bank (string_bytes log.old) (string_bytes log.new) result }
+        ensures { LineFollowed line.entry.number line.entry.text.now self.old.bank self.new.bank (string_bytes log.old) (string_bytes log.new) result }
     {
-        let Some(directive) = read_directive(heap, line)? else {
+        let Some(directive) = read_directive(heap, line.text)? else {
             return Ok(());
         };
-        let shown = self.carry_out(number, directive)?;
-        match writeln!(log, "{shown}") {
-            Ok(()) => Ok(()),
-            Err(_) => Err(Wrong::Word(Fault::NoMemory)),
-        }
+        let shown = self.carry_out(line.number, directive)?;
+        writeln!(log, "{shown}")?;
+        Ok(())
     }
 }

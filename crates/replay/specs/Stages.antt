@@ -42,10 +42,6 @@ parting_at number first second = cond (stand_alike first second) None (Some numb
 abbrev pub parted_after : ℕ → Lines → Lines → Option ℕ → Option ℕ
 parted_after number first second parted = or_else parted (parting_at number first second)
 
-abbrev pub after_parting : ℕ → Lines → Lines → Pair → Pair
-after_parting number first second pair =
-    record { first = pair.first; second = pair.second; parted = parted_after number first second pair.parted }
-
 -- Two cabinets have followed a call, each on its own, and the log shows both.
 pub record TwoFollow (number : ℕ) (asked : Asked) (before after : Pair) (log longer : List ℕ) : Type 0 where
   pub one : Lines

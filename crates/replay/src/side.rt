@@ -97,10 +97,10 @@ impl Side {
     fn image_length(&self, given: Option<u16>) -> usize
         ensures { result ≡ image_length given (side_stands self.now) }
     {
-        match given {
-            Some(length) => usize::from(length),
-            None => ROW_LENGTH * usize::from(self.cabinet.axis_count()),
-        }
+        given.map_or(
+            ROW_LENGTH * usize::from(self.cabinet.axis_count()),
+            usize::from,
+        )
     }
 
     // Carries out a cycle at a line of the scenario. One that leaves Operational is one in which the watch runs out.
@@ -111,8 +111,8 @@ impl Side {
         let cycled = self
             .cabinet
             .cycle(cycle.frame.as_slice(), cycle.records.as_slice(), image);
-        if was_operational && !self.cabinet.is_operational() && self.ran_out.is_none() {
-            self.ran_out = Some(line);
+        if was_operational && !self.cabinet.is_operational() {
+            self.ran_out = self.ran_out.or(Some(line));
         }
         cycled
     }

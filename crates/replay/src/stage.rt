@@ -4,12 +4,13 @@ ghost use Rattle.drive_log.specs.Added.{Adds};
 ghost use Rattle.calls.specs.Heard.{call_asks};
 ghost use Rattle.call_log.specs.CallTexts.{both_text};
 ghost use Rattle.replay.specs.Sides.{delay_of};
-ghost use Rattle.replay.specs.Stages.{name_of, closing_text, NoWord, stand_alike, parting_at, after_parting, OneFollows, TwoFollow, BenchesFollow, Built, LineFollowed, Unwritten, StartsEmpty};
+ghost use Rattle.replay.specs.Stages.{name_of, closing_text, NoWord, OneFollows, TwoFollow, BenchesFollow, Built, LineFollowed, Unwritten, StartsEmpty};
 
 use crate::closing::{write_parting, write_run_out};
 use crate::side::Side;
+use bench::line::NumberedLine;
 use bench::run::Bench;
-use call_log::call_lines::{DelayedLines, Lines, write_both_lines, write_lines};
+use call_log::call_lines::{DelayedLines, Heading, Lines, write_both_lines, write_lines};
 use calls::call::Call;
 use calls::directive::{Build, CabinetDirective, read_cabinet_directive};
 use grammar::wrong::Wrong;
@@ -45,14 +46,16 @@ pub struct Replay {
     stage: Stage,
 }
 
-// The word that names a call.
-fn name_of(call: &Call) -> &'static str
-    ensures { result.now ≡ name_of (call_asks call.now) }
+// The heading of a call that stands on a line.
+fn heading(number: u64, call: &Call) -> Heading<'static>
+    ensures line { result.number ≡ number }
+    ensures word { result.directive.now ≡ name_of (call_asks call.now) }
 {
-    match call {
+    let directive = match call {
         Call::Request(_) => "al",
         Call::Cycle(_) => "cycle",
-    }
+    };
+    Heading { number, directive }
 }
 
 impl Benches {
@@ -60,15 +63,14 @@ impl Benches {
     fn follow(
         &mut self,
         heap: Global,
-        number: u64,
-        line: &[u8],
+        line: NumberedLine<'_>,
         log: &mut String,
     ) -> Result<(), Wrong>
-        ensures { MatchResult result (λ done. BenchesFollow number line.now self.old self.new (string_bytes log.old) (string_bytes log.new)) (Unwritten (string_bytes log.old) (string_bytes log.new)) }
+        ensures { MatchResult result (λ done. BenchesFollow line.entry.number line.entry.text.now self.old self.new (string_bytes log.old) (string_bytes log.new)) (Unwritten (string_bytes log.old) (string_bytes log.new)) }
     {
-        self.first.follow(heap, number, line, log)?;
+        self.first.follow(heap, line, log)?;
         let mut unseen = String::new(heap);
-        self.second.follow(heap, number, line, &mut unseen)
+        self.second.follow(heap, line, &mut unseen)
     }
 
     // Builds the cabinet, or two, and shows them.
@@ -83,8 +85,12 @@ impl Benches {
     {
         let Benches { first, second } = self;
         let (one, lines) = Side::build(heap, first.into_bank(), build.number, build.delay)?;
+        let heading = Heading {
+            number,
+            directive: "cabinet",
+        };
         let Some(delay) = build.second else {
-            write_lines(number, "cabinet", &lines, log)?;
+            write_lines(heading, &lines, log)?;
             return Ok(Stage::One(one));
         };
         let (other, other_lines) = Side::build(heap, second.into_bank(), build.number, delay)?;
@@ -93,7 +99,7 @@ impl Benches {
             second: other,
             parted: None,
         };
-        pair.show(number, "cabinet", &lines, &other_lines, log)?;
+        pair.show(heading, &lines, &other_lines, log)?;
         Ok(Stage::Two(pair))
     }
 }
@@ -109,38 +115,20 @@ fn call_one(
     ensures { MatchResult result (λ done. OneFollows number (call_asks call.now) side.old side.new (string_bytes log.old) (string_bytes log.new)) (Unwritten (string_bytes log.old) (string_bytes log.new)) }
 {
     let lines = side.call(heap, number, call)?;
-    write_lines(number, name_of(call), &lines, log)?;
+    write_lines(heading(number, call), &lines, log)?;
     Ok(())
-}
-
-fn stand_alike(first: &Lines, second: &Lines) -> bool
-    ensures { result ≡ stand_alike first.now second.now }
-{
-    first.below == second.below
-}
-
-// The line, where the two stand differently after it.
-fn parting(number: u64, first: &Lines, second: &Lines) -> Option<u64>
-    ensures { result ≡ parting_at number first.now second.now }
-{
-    if stand_alike(first, second) {
-        None
-    } else {
-        Some(number)
-    }
 }
 
 impl Pair {
     // Shows what a directive made of both.
     fn show(
         &self,
-        number: u64,
-        directive: &str,
+        heading: Heading<'_>,
         first: &Lines,
         second: &Lines,
         log: &mut String,
     ) -> Result<(), AllocError>
-        ensures { Adds result (both_text number directive.now (delay_of self.now.first) first.now (delay_of self.now.second) second.now) (string_bytes log.old) (string_bytes log.new) }
+        ensures { Adds result (both_text heading.entry.number heading.entry.directive.now (delay_of self.now.first) first.now (delay_of self.now.second) second.now) (string_bytes log.old) (string_bytes log.new) }
     {
         let first = DelayedLines {
             delay: self.first.delay(),
@@ -150,19 +138,10 @@ impl Pair {
             delay: self.second.delay(),
             lines: second,
         };
-        write_both_lines(number, directive, first, second, log)
+        write_both_lines(heading, first, second, log)
     }
 
-    // Where the two stand differently for the first time, they part.
-    fn note_parting(&mut self, number: u64, first: &Lines, second: &Lines)
-        ensures { self.new ≡ after_parting number first.now second.now self.old }
-    {
-        if self.parted.is_none() {
-            self.parted = parting(number, first, second);
-        }
-    }
-
-    // Makes a call to both and shows it.
+    // Makes a call to both and shows it. Where they stand differently for the first time, they part.
     fn call(
         &mut self,
         heap: Global,
@@ -174,8 +153,10 @@ impl Pair {
     {
         let first = self.first.call(heap, number, call)?;
         let second = self.second.call(heap, number, call)?;
-        self.note_parting(number, &first, &second);
-        self.show(number, name_of(call), &first, &second, log)?;
+        self.parted = self
+            .parted
+            .or((first.below != second.below).then_some(number));
+        self.show(heading(number, call), &first, &second, log)?;
         Ok(())
     }
 }
@@ -191,19 +172,13 @@ fn check_no_bench(heap: Global, line: &[u8]) -> Result<(), Wrong>
 }
 
 impl Stage {
-    fn follow(
-        self,
-        heap: Global,
-        number: u64,
-        line: &[u8],
-        log: &mut String,
-    ) -> Result<Stage, Wrong>
-        ensures { MatchResult result (LineFollowed number line.now (string_bytes log.old) (string_bytes log.new) self) (Unwritten (string_bytes log.old) (string_bytes log.new)) }
+    fn follow(self, heap: Global, line: NumberedLine<'_>, log: &mut String) -> Result<Stage, Wrong>
+        ensures { MatchResult result (LineFollowed line.entry.number line.entry.text.now (string_bytes log.old) (string_bytes log.new) self) (Unwritten (string_bytes log.old) (string_bytes log.new)) }
     {
-        match (self, read_cabinet_directive(heap, line)?) {
-            (Stage::Bench(benches), None) => {
-                let mut benches = benches;
-                benches.follow(heap, number, line, log)?;
+        let NumberedLine { number, text } = line;
+        match (self, read_cabinet_directive(heap, text)?) {
+            (Stage::Bench(mut benches), None) => {
+                benches.follow(heap, line, log)?;
                 Ok(Stage::Bench(benches))
             }
             (Stage::Bench(benches), Some(CabinetDirective::Build(build))) => {
@@ -211,17 +186,15 @@ impl Stage {
             }
             (Stage::Bench(_), Some(CabinetDirective::Call(_))) => Err(Wrong::NoCabinet),
             (stage, None) => {
-                check_no_bench(heap, line)?;
+                check_no_bench(heap, text)?;
                 Ok(stage)
             }
             (_, Some(CabinetDirective::Build(_))) => Err(Wrong::SecondCabinet),
-            (Stage::One(side), Some(CabinetDirective::Call(call))) => {
-                let mut side = side;
+            (Stage::One(mut side), Some(CabinetDirective::Call(call))) => {
                 call_one(&mut side, heap, number, &call, log)?;
                 Ok(Stage::One(side))
             }
-            (Stage::Two(pair), Some(CabinetDirective::Call(call))) => {
-                let mut pair = pair;
+            (Stage::Two(mut pair), Some(CabinetDirective::Call(call))) => {
                 pair.call(heap, number, &call, log)?;
                 Ok(Stage::Two(pair))
             }
@@ -242,17 +215,16 @@ impl Replay {
         }
     }
 
-    // Follows a line of the scenario, given with its number and without its newline, and adds what it shows to the log.
+    // Follows a line of the scenario, and adds what it shows to the log.
     pub fn follow(
         self,
         heap: Global,
-        number: u64,
-        line: &[u8],
+        line: NumberedLine<'_>,
         log: &mut String,
     ) -> Result<Replay, Wrong>
-        ensures { MatchResult result (λ after. LineFollowed number line.now (string_bytes log.old) (string_bytes log.new) self.stage after.stage) (Unwritten (string_bytes log.old) (string_bytes log.new)) }
+        ensures { MatchResult result (λ after. LineFollowed line.entry.number line.entry.text.now (string_bytes log.old) (string_bytes log.new) self.stage after.stage) (Unwritten (string_bytes log.old) (string_bytes log.new)) }
     {
-        let stage = self.stage.follow(heap, number, line, log)?;
+        let stage = self.stage.follow(heap, line, log)?;
         Ok(Replay { stage })
     }
 
