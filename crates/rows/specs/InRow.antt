@@ -17,7 +17,7 @@ module _ {D : Type 0} (meaning : D → DriveMeaning) (drives : List D) where
   pub row_few : length (in_row meaning drives) ≤ most
   row_few = simp length-take (omega arith)
 
-  at_place : (i : ℕ) → i < length (in_row meaning drives) → AtPlace meaning drives i i
+  pub at_place : (i : ℕ) → i < length (in_row meaning drives) → AtPlace meaning drives i i
   at_place i of-bank =
       let inside : i < length drives = omega (arith, row_count) in
       record {
@@ -29,7 +29,7 @@ module _ {D : Type 0} (meaning : D → DriveMeaning) (drives : List D) where
             ∙ take-set-lt most (map meaning drives) i (meaning after) (omega (arith, row_count));
       }
 
-  beyond : (i : ℕ) → length (in_row meaning drives) ≤ i → Beyond (in_row meaning drives) i
+  pub beyond : (i : ℕ) → length (in_row meaning drives) ≤ i → Beyond (in_row meaning drives) i
   beyond i past =
       record {
         there = get_or_past (in_row meaning drives) i absent past;

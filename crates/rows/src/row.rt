@@ -9,6 +9,7 @@ use drives::drive::{Drive, RECORD_LENGTH};
 use drives::held::Held;
 use drives::target::{Refusal, Target};
 use std::alloc::{AllocFailed, Global};
+use std::marker::Model;
 
 // Drives in the order in which they came. The first 255 are the bank; no operation reaches the others.
 #[derive(Drop)]
@@ -16,9 +17,18 @@ pub struct Row<D> {
     drives: Vec<D>,
 }
 
+// A row is the list of its drives.
+impl<D> Model for Row<D> {
+    ghost use Rattle.std.specs.Prelude.{List};
+
+    ghost Value = { List D };
+
+    ghost view = { λ row. row.drives.items };
+}
+
 impl<D: Drive> Row<D> {
     pub fn new(heap: Global) -> Row<D>
-        ensures { result.drives.items ≡ [] }
+        ensures { result ≡ [] }
     {
         Row {
             drives: Vec::new(heap),
@@ -27,15 +37,15 @@ impl<D: Drive> Row<D> {
 
     // How many drives stand in the row, those beyond the bank too.
     pub fn len(&self) -> usize
-        ensures { result ≡ length self.now.drives.items }
+        ensures { result ≡ length self.now }
     {
         self.drives.len()
     }
 
     // One drive more at the end, or the drive back where memory is wanting.
     pub fn push(&mut self, drive: D) -> Result<(), AllocFailed<D>>
-        ensures appended { self.new.drives.items ≡ (if is_ok result then self.old.drives.items ++ (drive ∷ []) else self.old.drives.items) }
-        ensures joins_the_bank { in_row D.Drive.meaning self.new.drives.items ≡ (if is_ok result then with_drive (in_row D.Drive.meaning self.old.drives.items) (D.Drive.meaning drive) else in_row D.Drive.meaning self.old.drives.items) }
+        ensures appended { self.new ≡ (if is_ok result then self.old ++ (drive ∷ []) else self.old) }
+        ensures joins_the_bank { in_row D.Drive.meaning self.new ≡ (if is_ok result then with_drive (in_row D.Drive.meaning self.old) (D.Drive.meaning drive) else in_row D.Drive.meaning self.old) }
         ensures handed_back { IfErr result (λ back. back.value ≡ drive) }
     {
         self.drives.push(drive)
@@ -43,19 +53,20 @@ impl<D: Drive> Row<D> {
 
     // The place in the row of a number of the bank, none beyond it.
     fn place(&self, number: u8) -> Option<usize>
-        ensures { PlaceIs D.Drive.meaning self.now.drives.items number result }
+        ensures { PlaceIs D.Drive.meaning self.now number result }
     {
         (number < self.count()).then_some(usize::from(number))
     }
 }
 
 impl<D: Drive> Bank for Row<D> {
-    ghost meanings = { λ b. in_row D.Drive.meaning b.drives.items };
+    ghost meanings = { λ b. in_row D.Drive.meaning b };
 
-    ghost lawful = { λ b. row_lawful D.Drive.meaning b.drives.items D.Drive.lawful };
+    ghost lawful = { λ b. row_lawful D.Drive.meaning b D.Drive.lawful };
 
-    ghost few = { λ b. row_few D.Drive.meaning b.drives.items };
+    ghost few = { λ b. row_few D.Drive.meaning b };
 
+    // 255 at most.
     fn count(&self) -> u8 {
         u8::try_from(self.len()).unwrap_or(u8::MAX)
     }

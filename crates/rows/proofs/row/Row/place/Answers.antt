@@ -1,7 +1,6 @@
-use Rattle.std.proofs.Common.{vec_items}
 use Rattle.rows.specs.InRow.{place_is}
 use Rattle.rows.proofs.row.Row.place.Goals as goal
 
 pub returns : goal.returns
 returns g c =
-    rw (c.then_some.ensures, c.from.ensures, c.count.ensures) (place_is g.D.Drive.meaning (vec_items c.args.self.now.drives) c.args.number)
+    rw (c.then_some.ensures, c.from.ensures, c.count.ensures) (place_is g.D.Drive.meaning c.args.self.now c.args.number)

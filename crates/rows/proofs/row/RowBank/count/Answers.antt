@@ -1,4 +1,4 @@
-use Rattle.std.proofs.Common.{◌≡◌, ℕ, ◌<◌, min, Ok, Err, vec_items, ◌∙◌, arith}
+use Rattle.std.proofs.Common.{◌≡◌, ℕ, ◌<◌, min, Ok, Err, ◌∙◌, arith}
 use Rattle.std.specs.Prelude.{Result}
 use Rattle.std.specs.Result.{OkIff, result_unwrap_or}
 use Rattle.rows.specs.InRow.{row_count}
@@ -10,7 +10,6 @@ capped n (Err e) h = omega (arith, h)
 
 pub returns : goal.returns
 returns g c =
-    let drives = vec_items c.args.self.now.drives in
     c.unwrap_or.ensures
     ∙ capped _ c.try_from.result (rw c.len.ensures at c.try_from.ensures)
-    ∙ row_count g.D.Drive.meaning drives
+    ∙ row_count g.D.Drive.meaning c.args.self.now
