@@ -227,7 +227,7 @@ impl Axis {
         }
     }
 
-    // What is left of a cycle after the move, for an axis that has made one and for one that has not: a part that the line brings is acted on.
+    // What is left of a cycle, whether the axis has moved or not: a part that the line brings is acted on.
     #[tactic(auto, using(crate::proofs::Changes::unchanged))]
     fn heed<B: Bank>(&mut self, line: Line, was_enabled: bool, bank: &mut B, number: u8)
         ensures noted { self.new ≡ heeded line was_enabled (drive_at (B.meanings bank.old) number) self.old }
