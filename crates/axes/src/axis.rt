@@ -2,7 +2,7 @@
 ghost use Rattle.std.specs.Prelude.{◌≡◌, ℕ, Some};
 ghost use Rattle.profile.specs.declared.state.State.TheVariants.{FaultReactionActive};
 ghost use Rattle.banks.specs.Lists.{drive_at, changed};
-ghost use Rattle.axes.specs.Moves.{command_move, own_move, loss_move, follow_move, is_enabled};
+ghost use Rattle.axes.specs.Moves.{command_move, own_move, loss_move, resets, follow_move, is_enabled};
 ghost use Rattle.axes.specs.Steps.{axis_at_start, line_loss, in_state, moved, after_move, noted, acted, acted_drive, heeded, heeded_drive, line_move, cycle_move, stop_cause, stay_begun, named_target, refusal_of, given, Cycles, LineLost, axis_under, drive_under};
 ghost use Rattle.axes.specs.Seen.{statusword_of, inputs_of};
 
@@ -173,12 +173,19 @@ impl Axis {
         }
     }
 
-    // The move under a controlword: a fault is reset where bit 7 rises without trouble, else the command is followed.
+    // Whether a controlword resets the fault: bit 7 rises, and there is no trouble.
+    fn resets(&self, controlword: u16, trouble: u16) -> bool
+        ensures { result ≡ resets controlword trouble self.now }
+    {
+        self.state == State::Fault && reset_bit(controlword) && !self.bit7 && trouble == 0
+    }
+
+    // The move under a controlword: a fault is reset, else the command is followed.
     fn obey(&mut self, controlword: u16, trouble: u16) -> Option<State>
         ensures decides { result ≡ follow_move controlword trouble self.old }
         ensures moves { (cause : ℕ) → self.new ≡ moved cause result self.old }
     {
-        if self.state == State::Fault && reset_bit(controlword) && !self.bit7 && trouble == 0 {
+        if self.resets(controlword, trouble) {
             self.error = 0;
             return self.go_to(State::SwitchOnDisabled);
         }
@@ -227,7 +234,7 @@ impl Axis {
         }
     }
 
-    // What is left of a cycle after the move, for an axis that has made one and for one that has not: a part that the line brings is acted on.
+    // What is left of a cycle, whether the axis has moved or not: a part that the line brings is acted on.
     #[tactic(auto, using(crate::proofs::Changes::unchanged))]
     fn heed<B: Bank>(&mut self, line: Line, was_enabled: bool, bank: &mut B, number: u8)
         ensures noted { self.new ≡ heeded line was_enabled (drive_at (B.meanings bank.old) number) self.old }
