@@ -19,9 +19,6 @@ use Rattle.bench.specs.declared.log.BenchLine.{BenchLine}
 use Rattle.bench.specs.Texts.{line_text}
 use Rattle.bench.specs.Operations.{operated, operation_answer}
 
-abbrev pub newline : ℕ
-newline = 10
-
 abbrev pub bank_is : Row (Stack (MadeDrive AnyMake)) → List DriveMeaning
 bank_is bank = in_row stack_is bank
 

@@ -1,6 +1,5 @@
 // A call of a cabinet, with what it is given.
 ghost use Rattle.std.specs.Prelude.{◌≡◌};
-ghost use Rattle.lines.specs.Lines.{words_left};
 ghost use Rattle.grammar.specs.Grammar.{leaving, heard_as, UnlessNoMemory};
 ghost use Rattle.calls.specs.Calls.{request_in, cycle_in, call_in};
 ghost use Rattle.calls.specs.Heard.{cycle_asks, call_asks};
@@ -38,42 +37,31 @@ pub enum Call {
 }
 
 fn take_request(words: &mut Words<'_>) -> Result<AlRequest, Wrong>
-    ensures { leaving result (words_left words.new) ≡ request_in (words_left words.old) }
+    ensures { leaving result words.new ≡ request_in words.old }
 {
-    let control = take_u16(words)?;
-    let output = take_u16(words)?;
-    let input = take_u16(words)?;
     Ok(AlRequest {
-        control,
-        output,
-        input,
+        control: take_u16(words)?,
+        output: take_u16(words)?,
+        input: take_u16(words)?,
     })
 }
 
 fn take_cycle(heap: Global, words: &mut Words<'_>) -> Result<Cycle, Wrong>
-    ensures { UnlessNoMemory (leaving (heard_as cycle_asks result) (words_left words.new)) (cycle_in (words_left words.old)) }
+    ensures { UnlessNoMemory (leaving (heard_as cycle_asks result) words.new) (cycle_in words.old) }
 {
-    let frame = take_bytes(heap, words)?;
-    let records = take_bytes(heap, words)?;
-    let image = take_optional(words, LONGEST_IMAGE)?;
     Ok(Cycle {
-        frame,
-        records,
-        image,
+        frame: take_bytes(heap, words)?,
+        records: take_bytes(heap, words)?,
+        image: take_optional(words, LONGEST_IMAGE)?,
     })
 }
 
+#[tactic(auto, unfolding(crate::specs::Calls::call_in))]
 pub(crate) fn take_call(heap: Global, name: CallName, words: &mut Words<'_>) -> Result<Call, Wrong>
-    ensures { UnlessNoMemory (leaving (heard_as call_asks result) (words_left words.new)) (call_in name (words_left words.old)) }
+    ensures { UnlessNoMemory (leaving (heard_as call_asks result) words.new) (call_in name words.old) }
 {
     match name {
-        CallName::Request => {
-            let request = take_request(words)?;
-            Ok(Call::Request(request))
-        }
-        CallName::Cycle => {
-            let cycle = take_cycle(heap, words)?;
-            Ok(Call::Cycle(cycle))
-        }
+        CallName::Request => Ok(Call::Request(take_request(words)?)),
+        CallName::Cycle => Ok(Call::Cycle(take_cycle(heap, words)?)),
     }
 }

@@ -1,7 +1,6 @@
 // What a line of the cabinet part says.
 ghost use Rattle.std.specs.Prelude.{◌≡◌};
 ghost use Rattle.std.specs.Option.{option_map};
-ghost use Rattle.lines.specs.Lines.{words_left};
 ghost use Rattle.grammar.specs.Grammar.{leaving, heard_as, UnlessNoMemory};
 ghost use Rattle.calls.specs.Calls.{build_in, arguments_in, cabinet_line_says};
 ghost use Rattle.calls.specs.Heard.{cabinet_says};
@@ -30,47 +29,37 @@ pub enum CabinetDirective {
 }
 
 fn take_build(words: &mut Words<'_>) -> Result<Build, Wrong>
-    ensures { leaving result (words_left words.new) ≡ build_in (words_left words.old) }
+    ensures { leaving result words.new ≡ build_in words.old }
 {
-    let number = take_unsigned(words, u32::MAX)?;
-    let delay = take_u16(words)?;
-    let second = take_optional(words, u16::MAX)?;
     Ok(Build {
-        number,
-        delay,
-        second,
+        number: take_unsigned(words, u32::MAX)?,
+        delay: take_u16(words)?,
+        second: take_optional(words, u16::MAX)?,
     })
 }
 
+#[tactic(auto, unfolding(crate::specs::Calls::arguments_in))]
 fn take_arguments(
     heap: Global,
     keyword: Keyword,
     words: &mut Words<'_>,
 ) -> Result<CabinetDirective, Wrong>
-    ensures { UnlessNoMemory (leaving (heard_as cabinet_says result) (words_left words.new)) (arguments_in keyword (words_left words.old)) }
+    ensures { UnlessNoMemory (leaving (heard_as cabinet_says result) words.new) (arguments_in keyword words.old) }
 {
     match keyword {
-        Keyword::Cabinet => {
-            let build = take_build(words)?;
-            Ok(CabinetDirective::Build(build))
-        }
-        Keyword::Call(name) => {
-            let call = take_call(heap, name, words)?;
-            Ok(CabinetDirective::Call(call))
-        }
+        Keyword::Cabinet => Ok(CabinetDirective::Build(take_build(words)?)),
+        Keyword::Call(name) => Ok(CabinetDirective::Call(take_call(heap, name, words)?)),
     }
 }
 
 // What a line says: a directive of the cabinet part, or what is wrong with it. A line that begins with another word,
 // or has none, is not of this part.
+#[tactic(auto, unfolding(grammar::specs::Grammar::ended))]
 pub fn read_cabinet_directive(heap: Global, line: &[u8]) -> Result<Option<CabinetDirective>, Wrong>
     ensures { UnlessNoMemory (heard_as (option_map cabinet_says) result) (cabinet_line_says line.now) }
 {
     let mut words = Words::of_line(line);
-    let Some(name) = words.next() else {
-        return Ok(None);
-    };
-    let Some(keyword) = read_keyword(name) else {
+    let Some(keyword) = words.next().and_then(read_keyword) else {
         return Ok(None);
     };
     let directive = take_arguments(heap, keyword, &mut words)?;

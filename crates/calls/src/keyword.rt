@@ -2,8 +2,6 @@
 ghost use Rattle.std.specs.Prelude.{◌≡◌};
 ghost use Rattle.calls.specs.Calls.{keyword_of};
 
-use grammar::grammar::is_written;
-
 // A call, by its name.
 #[derive(Clone, Copy)]
 pub enum CallName {
@@ -20,13 +18,10 @@ pub enum Keyword {
 pub(crate) fn read_keyword(name: &[u8]) -> Option<Keyword>
     ensures { result ≡ keyword_of name.now }
 {
-    if is_written(name, b"cabinet") {
-        Some(Keyword::Cabinet)
-    } else if is_written(name, b"al") {
-        Some(Keyword::Call(CallName::Request))
-    } else if is_written(name, b"cycle") {
-        Some(Keyword::Call(CallName::Cycle))
-    } else {
-        None
+    match name {
+        b"cabinet" => Some(Keyword::Cabinet),
+        b"al" => Some(Keyword::Call(CallName::Request)),
+        b"cycle" => Some(Keyword::Call(CallName::Cycle)),
+        _ => None,
     }
 }

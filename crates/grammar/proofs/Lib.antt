@@ -1,4 +1,2 @@
-pub mod Ends
-pub mod Memory
 pub mod NextWord
 pub mod ReadBytes

@@ -4,20 +4,39 @@ ghost use Rattle.text.specs.declared.fault.Fault.TheVariants.{NoMemory};
 ghost use Rattle.grammar.specs.declared.wrong.Wrong.TheVariants.{Word};
 
 use std::alloc::{AllocError, AllocFailed};
-use std::fmt;
 use text::fault::Fault;
+use thiserror::Error;
 
-#[derive(Clone, Copy)]
+#[derive(Clone, Copy, Debug, Error)]
 pub enum Wrong {
+    #[error("unknown directive")]
     UnknownDirective,
+    #[error("unknown make of drive")]
     UnknownMake,
+    #[error("a word is missing")]
     MissingWord,
+    #[error("a word too many")]
     SuperfluousWord,
+    #[error("a field record has 12 bytes")]
     RecordLength,
+    #[error("a bench directive after the cabinet line")]
     BenchAfterCabinet,
+    #[error("a second cabinet line")]
     SecondCabinet,
+    #[error("a cabinet directive before the cabinet line")]
     NoCabinet,
+    #[error("{}", text_of(.0))]
     Word(Fault),
+}
+
+fn text_of(fault: &Fault) -> &'static str {
+    match fault {
+        Fault::NotANumber => "not a number",
+        Fault::OutOfRange => "a number out of its range",
+        Fault::NotBytes => "not a string of bytes",
+        Fault::OddDigits => "an odd number of digits",
+        Fault::NoMemory => "no memory",
+    }
 }
 
 impl From<Fault> for Wrong {
@@ -41,26 +60,5 @@ impl From<AllocError> for Wrong {
 
     fn from(_error: AllocError) -> Wrong {
         Wrong::Word(Fault::NoMemory)
-    }
-}
-
-impl fmt::Display for Wrong {
-    fn fmt<W: fmt::Write>(&self, f: &mut fmt::Formatter<W>) -> fmt::Result {
-        let what = match self {
-            Wrong::UnknownDirective => "unknown directive",
-            Wrong::UnknownMake => "unknown make of drive",
-            Wrong::MissingWord => "a word is missing",
-            Wrong::SuperfluousWord => "a word too many",
-            Wrong::RecordLength => "a field record has 12 bytes",
-            Wrong::BenchAfterCabinet => "a bench directive after the cabinet line",
-            Wrong::SecondCabinet => "a second cabinet line",
-            Wrong::NoCabinet => "a cabinet directive before the cabinet line",
-            Wrong::Word(Fault::NotANumber) => "not a number",
-            Wrong::Word(Fault::OutOfRange) => "a number out of its range",
-            Wrong::Word(Fault::NotBytes) => "not a string of bytes",
-            Wrong::Word(Fault::OddDigits) => "an odd number of digits",
-            Wrong::Word(Fault::NoMemory) => "no memory",
-        };
-        write!(f, "{what}")
     }
 }

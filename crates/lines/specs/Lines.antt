@@ -1,7 +1,6 @@
 -- A line and its words.
-use Rattle.std.specs.Prelude.{ℕ, ◌-◌, Bool, cond, not, ◌||◌, List, [], ◌∷◌, ◌++◌, length, take, Some, None, Option, ◌==◌, slice_index}
+use Rattle.std.specs.Prelude.{ℕ, ◌-◌, Bool, cond, not, ◌||◌, List, [], ◌∷◌, ◌++◌, length, take, ◌==◌, slice_index}
 use Rattle.std.specs.List.{prefix_len}
-use Rattle.lines.specs.declared.words.Words.{Words}
 
 -- a space or a tab
 abbrev pub is_blank : ℕ → Bool
@@ -34,11 +33,3 @@ words_in text = words_after [] text
 -- The words of a line. A carriage return before a comment is not at the end of the line.
 abbrev pub words_of : List ℕ → List (List ℕ)
 words_of line = words_in (without_comment (without_return line))
-
--- The words that are still to come.
-abbrev pub words_left : Words → List (List ℕ)
-words_left words = words_in words.rest.now
-
-abbrev pub first_word : List (List ℕ) → Option (List ℕ)
-first_word [] = None
-first_word (w ∷ ws) = Some w

@@ -1,46 +1,26 @@
 // A line cut into its words, which borrow the line.
-ghost use Rattle.std.specs.Prelude.{◌≡◌, ◌≤◌, ◌++◌, length};
-ghost use Rattle.std.specs.Option.{option_map, option_to_list};
-ghost use Rattle.std.specs.List.{prefix_len};
-ghost use Rattle.lines.specs.Classes.{has};
-ghost use Rattle.lines.specs.Lines.{without_return, without_comment, words_of, words_left, first_word};
+ghost use Rattle.std.specs.Prelude.{◌≡◌, List, ℕ};
+ghost use Rattle.std.specs.Iterator.{YieldsFirstRef, item_count};
+ghost use Rattle.lines.specs.Lines.{is_blank, without_return, without_comment, words_in, words_of};
 
-// The words of a line that are still to come.
+use std::marker::Model;
+
+// The words of a line that are still to come: a contract sees the list of them.
 #[derive(Drop)]
 pub struct Words<'a> {
     rest: &'a [u8],
 }
 
-// The bytes that a line is cut by.
-#[derive(Clone, Copy)]
-enum Class {
-    Blank,
-    NotBlank,
-    NotHash,
+impl<'a> Model for Words<'a> {
+    ghost Value = { List (List ℕ) };
+
+    ghost view = { λ w. words_in w.rest.now };
 }
 
-impl Class {
-    fn has(self, byte: u8) -> bool
-        ensures { result ≡ has self byte }
-    {
-        match self {
-            Class::Blank => byte == b' ' || byte == b'\t',
-            Class::NotBlank => byte != b' ' && byte != b'\t',
-            Class::NotHash => byte != b'#',
-        }
-    }
-}
-
-// How many bytes at the front of the text are of the class.
-fn run(text: &[u8], class: Class) -> usize
-    ensures counts { result ≡ prefix_len (has class) text.now }
-    ensures fits { result ≤ length text.now }
+fn is_blank(byte: u8) -> bool
+    ensures { result ≡ is_blank byte }
 {
-    let mut n = 0;
-    while n < text.len() && class.has(text[n]) {
-        n += 1;
-    }
-    n
+    byte == b' ' || byte == b'\t'
 }
 
 fn without_return(line: &[u8]) -> &[u8]
@@ -55,28 +35,34 @@ fn without_return(line: &[u8]) -> &[u8]
 fn without_comment(text: &[u8]) -> &[u8]
     ensures { result.now ≡ without_comment text.now }
 {
-    let (before, _) = text.split_at(run(text, Class::NotHash));
-    before
+    let end = text.iter().position(|byte| *byte == b'#');
+    &text[..end.unwrap_or(text.len())]
 }
 
 impl<'a> Words<'a> {
     // All words of a line, which comes without its newline.
     pub fn of_line(line: &'a [u8]) -> Words<'a>
-        ensures { words_left result ≡ words_of line.now }
+        ensures { result ≡ words_of line.now }
     {
         // The return goes first: one before a comment is not at the end of the line.
         let rest = without_comment(without_return(line));
         Words { rest }
     }
+}
 
-    // The first of the words left; the others stay.
-    pub fn next(&mut self) -> Option<&'a [u8]>
-        ensures first { option_map (λ x. x.now) result ≡ first_word (words_left self.old) }
-        ensures others { words_left self.old ≡ option_to_list (option_map (λ x. x.now) result) ++ words_left self.new }
-    {
-        let (_, text) = self.rest.split_at(run(self.rest, Class::Blank));
-        let (word, rest) = text.split_at(run(text, Class::NotBlank));
+impl<'a> Iterator for Words<'a> {
+    type Item = &'a [u8];
+
+    ghost next_gives = { YieldsFirstRef (λ words. words) };
+
+    ghost remaining = { item_count (λ words. words) };
+
+    fn next(&mut self) -> Option<&'a [u8]> {
+        let start = self.rest.iter().position(|byte| !is_blank(*byte))?;
+        let text = &self.rest[start..];
+        let end = text.iter().position(|byte| is_blank(*byte));
+        let (word, rest) = text.split_at(end.unwrap_or(text.len()));
         self.rest = rest;
-        if word.is_empty() { None } else { Some(word) }
+        Some(word)
     }
 }

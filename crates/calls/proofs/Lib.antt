@@ -1,2 +1,0 @@
-pub mod CabinetLines
-pub mod Optional
