@@ -7,7 +7,7 @@ use std::alloc::{AllocError, AllocFailed};
 use text::fault::Fault;
 use thiserror::Error;
 
-#[derive(Clone, Copy, Debug, Error)]
+#[derive(Clone, Copy, Debug, PartialEq, Eq, Error)]
 pub enum Wrong {
     #[error("unknown directive")]
     UnknownDirective,
@@ -25,18 +25,8 @@ pub enum Wrong {
     SecondCabinet,
     #[error("a cabinet directive before the cabinet line")]
     NoCabinet,
-    #[error("{}", text_of(.0))]
+    #[error(transparent)]
     Word(Fault),
-}
-
-fn text_of(fault: &Fault) -> &'static str {
-    match fault {
-        Fault::NotANumber => "not a number",
-        Fault::OutOfRange => "a number out of its range",
-        Fault::NotBytes => "not a string of bytes",
-        Fault::OddDigits => "an odd number of digits",
-        Fault::NoMemory => "no memory",
-    }
 }
 
 impl From<Fault> for Wrong {
