@@ -7,7 +7,8 @@ use crate::drive::{Drive, RECORD_LENGTH};
 use crate::held::Held;
 use crate::target::{Refusal, Target};
 
-// A make: what the maker's numbers say of a drive, and never changes. It answers for whatever a drive of it holds.
+// A make: what the maker's numbers say, which never change. What a drive of the make holds is no part of it, and is
+// handed in where an answer may depend on it.
 pub trait DriveMake {
     ghost make: { Self → Make };
 
@@ -24,11 +25,11 @@ pub trait DriveMake {
 
     ghost lawful: { (m : Self) → Lawful (make m) };
 
-    // No window is part of a make: it refuses for its own reasons.
+    // It refuses for its own reasons: no window stands above it.
     ghost stands_alone: { (m : Self) → make m ≡ own_make (make m).knows (make m).admits (make m).reads };
 }
 
-// A drive of a make, with what it holds.
+// A drive of a make, without a window: the make, and what the drive holds.
 #[derive(Drop)]
 pub struct MadeDrive<M> {
     make: M,
