@@ -1,5 +1,6 @@
 -- The line that is shown, as the text of what was said.
 use Rattle.std.proofs.Common.{◌≡◌, ℕ, ap, ◌∙◌}
+use Rattle.drives.specs.declared.made.MadeDrive.{MadeDrive}
 use Rattle.configured.specs.declared.make.AnyMake.{AnyMake}
 use Rattle.banks.specs.Lists.{drive_at}
 use Rattle.rows.specs.declared.row.Row.{Row}
@@ -10,7 +11,7 @@ use Rattle.bench.specs.Benches.{bank_is, name_of, number_of, answer_to, LineShow
 use Rattle.bench.specs.Texts.{line_text}
 
 pub line_shown :
-    (line : ℕ) (said : Said) (before after : Row (Stack AnyMake)) (shown : BenchLine)
+    (line : ℕ) (said : Said) (before after : Row (Stack (MadeDrive AnyMake))) (shown : BenchLine)
     → LineShows line said before after shown
     → line_text shown.line shown.directive.now shown.answer shown.drive.number shown.drive.held
     ≡ line_text line (name_of said) (answer_to said (bank_is before)) (number_of said before) (drive_at (bank_is after) (number_of said before)).held

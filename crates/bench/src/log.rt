@@ -17,7 +17,7 @@ impl fmt::Display for ShownAnswer {
         match self.0 {
             Some(Ok(())) => write!(f, "taken "),
             Some(Err(refusal)) => {
-                let cause = refusal.cause.number();
+                let cause = u8::from(refusal.cause);
                 let depth = refusal.depth;
                 write!(f, "refused cause={cause} depth={depth} ")
             }

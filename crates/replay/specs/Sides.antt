@@ -15,12 +15,13 @@ use Rattle.call_log.specs.declared.call_lines.Lines.{Lines}
 use Rattle.calls.specs.Calls.{AskedCycle, Asked, Requests, Cycles}
 use Rattle.rows.specs.declared.row.Row.{Row}
 use Rattle.stacks.specs.declared.stack.Stack.{Stack}
+use Rattle.drives.specs.declared.made.MadeDrive.{MadeDrive}
 use Rattle.configured.specs.declared.make.AnyMake.{AnyMake}
 use Rattle.bench.specs.Benches.{bank_is}
 use Rattle.replay.specs.declared.side.Side.{Side}
 
 -- How a cabinet over a configured bank stands.
-abbrev pub cabinet_stands : Cabinet (Row (Stack AnyMake)) → Standing
+abbrev pub cabinet_stands : Cabinet (Row (Stack (MadeDrive AnyMake))) → Standing
 cabinet_stands cabinet = standing (bank_is cabinet.bank) cabinet
 
 abbrev pub side_stands : Side → Standing

@@ -1,6 +1,7 @@
 use Rattle.std.proofs.Common.{refl, subst, rules}
 use Rattle.rows.specs.declared.row.Row.{Row}
 use Rattle.stacks.specs.declared.stack.Stack.{Stack}
+use Rattle.drives.specs.declared.made.MadeDrive.{MadeDrive}
 use Rattle.configured.specs.declared.make.AnyMake.{AnyMake}
 use Rattle.bench.specs.Benches.{bank_is}
 use Rattle.replay.specs.Sides.{SideBuilt}
@@ -13,7 +14,7 @@ returns-in_default c =
     record {
       one_delay = search rules;
       lines = lines;
-      side_built = subst (λ (bank : Row (Stack AnyMake)). SideBuilt c.args.build.number c.args.build.delay (bank_is bank) one lines) c.into_bank.ensures c.in_ok-one.ensures;
+      side_built = subst (λ (bank : Row (Stack (MadeDrive AnyMake))). SideBuilt c.args.build.number c.args.build.delay (bank_is bank) one lines) c.into_bank.ensures c.in_ok-one.ensures;
       log_shows = c.in_ok-write_lines.ensures;
     }
 
@@ -29,8 +30,8 @@ returns c =
       two_delays = c.in-Some.is;
       one = lines;
       other = others;
-      first_built = subst (λ (bank : Row (Stack AnyMake)). SideBuilt c.args.build.number c.args.build.delay (bank_is bank) one lines) c.into_bank.ensures c.in_ok-one.ensures;
-      second_built = subst (λ (bank : Row (Stack AnyMake)). SideBuilt c.args.build.number delay (bank_is bank) other others) c.into_bank-2.ensures c.in_ok-other.ensures;
+      first_built = subst (λ (bank : Row (Stack (MadeDrive AnyMake))). SideBuilt c.args.build.number c.args.build.delay (bank_is bank) one lines) c.into_bank.ensures c.in_ok-one.ensures;
+      second_built = subst (λ (bank : Row (Stack (MadeDrive AnyMake))). SideBuilt c.args.build.number delay (bank_is bank) other others) c.into_bank-2.ensures c.in_ok-other.ensures;
       not_parted = refl;
       log_shows = c.in_ok-show.ensures;
     }
