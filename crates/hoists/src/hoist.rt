@@ -18,6 +18,7 @@ pub struct HoistMake {
     greatest_speed: u32,
 }
 
+// A hoist is known by these numbers.
 pub type Hoist = MadeDrive<HoistMake>;
 
 impl HoistMake {
