@@ -36,12 +36,9 @@ module _ {D : Type 0} (meaning : D → DriveMeaning) (drives : List D) where
         changes = λ drive. set_past (in_row meaning drives) i drive past;
       }
 
-  pub place_is : (i : ℕ) → PlaceIs meaning drives i (then_some (ltb i (length (in_row meaning drives))) i)
-  place_is i = go (ltb i (length (in_row meaning drives))) refl
-    where
-      go : (inside : Bool) → ltb i (length (in_row meaning drives)) ≡ inside → PlaceIs meaning drives i (then_some inside i)
-      go true is = at_place i (ltb-true i _ is)
-      go false is = beyond i (ltb-false i _ is)
+  pub place_is : (i : ℕ) (inside : Bool) → inside ≡ ltb i (length (in_row meaning drives)) → PlaceIs meaning drives i (then_some inside i)
+  place_is i true is = at_place i (ltb-true i _ (sym is))
+  place_is i false is = beyond i (ltb-false i _ (sym is))
 
   pub row_lawful : ((d : D) → Lawful (meaning d).make) → AllLawful (in_row meaning drives)
   row_lawful law = All-take _ most (map meaning drives) (go drives)

@@ -1,6 +1,7 @@
+use Rattle.std.proofs.Common.{ltb, ap}
 use Rattle.rows.specs.InRow.{place_is}
 use Rattle.rows.proofs.row.Row.place.Goals as goal
 
 pub returns : goal.returns
 returns g c =
-    rw (c.then_some.ensures, c.from.ensures, c.count.ensures) (place_is g.D.Drive.meaning c.args.self.now c.args.number)
+    rw (c.then_some.ensures, c.from.ensures) (place_is g.D.Drive.meaning c.args.self.now c.args.number _ (ap (ltb c.args.number) c.count.ensures))
