@@ -1,4 +1,1 @@
-pub mod Lines
-pub mod Modes
-pub mod Records
 pub mod Turns

@@ -1,6 +1,5 @@
 // What a line of the bench part says.
 ghost use Rattle.std.specs.Prelude.{◌≡◌};
-ghost use Rattle.lines.specs.Lines.{words_left};
 ghost use Rattle.grammar.specs.Grammar.{leaving, UnlessNoMemory};
 ghost use Rattle.scenario.specs.Directives.{drive_in, mode_in, record_in, target_in, operation_in, arguments_in, line_says};
 ghost use Rattle.scenario.specs.Heard.{heard, heard_line};
@@ -32,64 +31,57 @@ pub enum Directive {
     Operate(u8, Operation),
 }
 
+#[tactic(auto, unfolding(grammar::specs::Grammar::read_in))]
 fn take_number(words: &mut Words<'_>) -> Result<u8, Wrong>
-    ensures { leaving result (words_left words.new) ≡ drive_in (words_left words.old) }
+    ensures { leaving result words.new ≡ drive_in words.old }
 {
-    let number = take_unsigned(words, 255)?;
-    Ok(number as u8)
+    Ok(take_unsigned(words, 255)? as u8)
 }
 
+#[tactic(auto, unfolding(grammar::specs::Grammar::read_in))]
 fn take_mode(words: &mut Words<'_>) -> Result<i8, Wrong>
-    ensures { leaving result (words_left words.new) ≡ mode_in (words_left words.old) }
+    ensures { leaving result words.new ≡ mode_in words.old }
 {
-    let mode = take_signed(words, -128, 127)?;
-    Ok(mode as i8)
+    Ok(take_signed(words, -128, 127)? as i8)
 }
 
+#[tactic(auto, unfolding(crate::specs::Directives::target_in))]
 fn take_target(words: &mut Words<'_>) -> Result<Target, Wrong>
-    ensures { leaving result (words_left words.new) ≡ target_in (words_left words.old) }
+    ensures { leaving result words.new ≡ target_in words.old }
 {
-    let mode = take_mode(words)?;
-    let value = take_value(words)?;
-    Ok(Target { mode, value })
+    Ok(Target {
+        mode: take_mode(words)?,
+        value: take_value(words)?,
+    })
 }
 
+#[tactic(auto, unfolding(crate::specs::Directives::record_in))]
 fn take_record(heap: Global, words: &mut Words<'_>) -> Result<[u8; RECORD_LENGTH], Wrong>
-    ensures { UnlessNoMemory (leaving result (words_left words.new)) (record_in (words_left words.old)) }
+    ensures { UnlessNoMemory (leaving result words.new) (record_in words.old) }
 {
     let bytes = take_bytes(heap, words)?;
-    match <[u8; RECORD_LENGTH]>::try_from(bytes.as_slice()) {
-        Ok(record) => Ok(record),
-        Err(_) => Err(Wrong::RecordLength),
-    }
+    <[u8; RECORD_LENGTH]>::try_from(bytes.as_slice()).map_err(|_| Wrong::RecordLength)
 }
 
+#[tactic(auto, unfolding(crate::specs::Directives::operation_in))]
 fn take_operation(heap: Global, verb: Verb, words: &mut Words<'_>) -> Result<Operation, Wrong>
-    ensures { UnlessNoMemory (leaving result (words_left words.new)) (operation_in verb (words_left words.old)) }
+    ensures { UnlessNoMemory (leaving result words.new) (operation_in verb words.old) }
 {
     match verb {
         Verb::Energise => Ok(Operation::Energise),
         Verb::DeEnergise => Ok(Operation::DeEnergise),
         Verb::Hold => Ok(Operation::Hold),
-        Verb::Sample => {
-            let record = take_record(heap, words)?;
-            Ok(Operation::Sample(record))
-        }
-        Verb::Take => {
-            let target = take_target(words)?;
-            Ok(Operation::Take(target))
-        }
+        Verb::Sample => Ok(Operation::Sample(take_record(heap, words)?)),
+        Verb::Take => Ok(Operation::Take(take_target(words)?)),
     }
 }
 
+#[tactic(auto, unfolding(crate::specs::Directives::arguments_in))]
 fn take_arguments(heap: Global, keyword: Keyword, words: &mut Words<'_>) -> Result<Directive, Wrong>
-    ensures { UnlessNoMemory (leaving (heard result) (words_left words.new)) (arguments_in keyword (words_left words.old)) }
+    ensures { UnlessNoMemory (leaving (heard result) words.new) (arguments_in keyword words.old) }
 {
     match keyword {
-        Keyword::Drive => {
-            let drive = take_drive(heap, words)?;
-            Ok(Directive::Drive(drive))
-        }
+        Keyword::Drive => Ok(Directive::Drive(take_drive(heap, words)?)),
         Keyword::Operation(verb) => {
             let number = take_number(words)?;
             let operation = take_operation(heap, verb, words)?;
@@ -99,6 +91,7 @@ fn take_arguments(heap: Global, keyword: Keyword, words: &mut Words<'_>) -> Resu
 }
 
 // What a line says: a directive, nothing where it has no word, or what is wrong with it.
+#[tactic(auto, unfolding(grammar::specs::Grammar::ended))]
 pub fn read_directive(heap: Global, line: &[u8]) -> Result<Option<Directive>, Wrong>
     ensures { UnlessNoMemory (heard_line result) (line_says line.now) }
 {
@@ -106,9 +99,7 @@ pub fn read_directive(heap: Global, line: &[u8]) -> Result<Option<Directive>, Wr
     let Some(name) = words.next() else {
         return Ok(None);
     };
-    let Some(keyword) = read_keyword(name) else {
-        return Err(Wrong::UnknownDirective);
-    };
+    let keyword = read_keyword(name).ok_or(Wrong::UnknownDirective)?;
     let directive = take_arguments(heap, keyword, &mut words)?;
     take_end(&mut words)?;
     Ok(Some(directive))

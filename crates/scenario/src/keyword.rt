@@ -2,8 +2,6 @@
 ghost use Rattle.std.specs.Prelude.{◌≡◌};
 ghost use Rattle.scenario.specs.Directives.{keyword_of};
 
-use grammar::grammar::is_written;
-
 // An operation on a drive, by its name.
 #[derive(Clone, Copy)]
 pub enum Verb {
@@ -23,19 +21,13 @@ pub enum Keyword {
 pub(crate) fn read_keyword(name: &[u8]) -> Option<Keyword>
     ensures { result ≡ keyword_of name.now }
 {
-    if is_written(name, b"drive") {
-        Some(Keyword::Drive)
-    } else if is_written(name, b"energise") {
-        Some(Keyword::Operation(Verb::Energise))
-    } else if is_written(name, b"deenergise") {
-        Some(Keyword::Operation(Verb::DeEnergise))
-    } else if is_written(name, b"hold") {
-        Some(Keyword::Operation(Verb::Hold))
-    } else if is_written(name, b"sample") {
-        Some(Keyword::Operation(Verb::Sample))
-    } else if is_written(name, b"take") {
-        Some(Keyword::Operation(Verb::Take))
-    } else {
-        None
+    match name {
+        b"drive" => Some(Keyword::Drive),
+        b"energise" => Some(Keyword::Operation(Verb::Energise)),
+        b"deenergise" => Some(Keyword::Operation(Verb::DeEnergise)),
+        b"hold" => Some(Keyword::Operation(Verb::Hold)),
+        b"sample" => Some(Keyword::Operation(Verb::Sample)),
+        b"take" => Some(Keyword::Operation(Verb::Take)),
+        _ => None,
     }
 }

@@ -1,15 +1,10 @@
-use Rattle.std.proofs.Common.{rules}
+use Rattle.std.proofs.Common.{◌≡◌, rules, codes}
+use Rattle.std.proofs.lemmas.Slice.Eq.{text_from_reads}
 use Rattle.scenario.specs.Makes.{named_in}
 use Rattle.scenario.proofs.make.take_named.Goals as goal
 
-pub returns-then-is_written : goal.returns-then-is_written
+pub returns-in-cylinder : goal.returns-in-cylinder
 unfolding named_in
-returns-then-is_written c = search rules
-
-pub returns-then-is_written-2 : goal.returns-then-is_written-2
-unfolding named_in
-returns-then-is_written-2 c = search rules
-
-pub returns-else-is_written-2 : goal.returns-else-is_written-2
-unfolding named_in
-returns-else-is_written-2 c = search rules
+returns-in-cylinder c =
+    let whole : c.args.name.now ≡ codes "cylinder" = search (rules, text_from_reads) in
+    rw whole (search rules)
