@@ -32,7 +32,7 @@ pub enum Line {
 }
 
 // The record of an axis.
-#[derive(Clone, Copy)]
+#[derive(Clone, Copy, Debug, PartialEq, Eq)]
 pub struct Axis {
     pub state: State,
     pub wanted: i8,

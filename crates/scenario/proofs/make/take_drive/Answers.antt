@@ -1,9 +1,13 @@
-use Rattle.std.proofs.Common.{◌≡◌, true, false, [], ◌∷◌, reverse, codes, vec_items, ap, ◌∙◌, inr, rules}
+use Rattle.std.proofs.Common.{◌≡◌, true, false, [], ◌∷◌, reverse, Ok, codes, vec_items, ap, ap₂, ◌∙◌, inr, rules}
 use Rattle.std.specs.Str.{bytes_eq}
 use Rattle.std.proofs.lemmas.List.{reverse-append}
 use Rattle.std.proofs.lemmas.Slice.Eq.{text_from_reads}
+use Rattle.drives.specs.Holdings.{at_rest}
 use Rattle.configured.specs.Makes.{make_is}
+use Rattle.stacks.specs.declared.stack.Enclosure.{Enclosure}
+use Rattle.stacks.specs.Enclosures.{stacked}
 use Rattle.stacks.specs.Enclosed.{stacked_is_enclosed}
+use Rattle.scenario.specs.Described.{stack_is}
 use Rattle.scenario.proofs.Turns.{no_name, window_read, wrong_limits, wrong_make, make_read, turn_shorter}
 use Rattle.scenario.proofs.make.take_drive.Goals as goal
 
@@ -38,4 +42,10 @@ returns-in_err-make-in_default c =
 pub returns-in_default : goal.returns-in_default
 returns-in_default c =
     let other : bytes_eq c.in_ok-name.name.now (codes "window") ≡ false = search rules in
-    inr (rw (c.over.ensures, c.new.ensures, c.new-2-in_default.ensures, c.reverse.ensures.items, stacked_is_enclosed (make_is _) _) (make_read c.loop-limits.invariant c.in_ok-name.ensures other c.in_ok-make-in_default.ensures))
+    let drive = make_is (record { make = c.in_ok-make-in_default.make; held = at_rest }) in
+    let stack = ap stack_is c.over.ensures
+    ∙ ap₂ (λ (windows : Enclosure) d. stacked (make_is d) (vec_items windows.windows)) c.new-windows.ensures c.new.ensures
+    ∙ ap (stacked drive) c.reverse.ensures.items
+    ∙ stacked_is_enclosed drive (reverse (vec_items c.loop-limits.limits)) in
+    inr (ap (λ d. Ok (d, c.take_named.new.words)) stack
+    ∙ make_read c.loop-limits.invariant c.in_ok-name.ensures other c.in_ok-make-in_default.ensures)
