@@ -2,42 +2,46 @@
 // numbers. The log of each is printed as `gatelog` prints it; a wrong line ends its scenario with a line that says so.
 #![tactic(auto)]
 
+use bench::line::NumberedLine;
 use replay::stage::Replay;
 use std::io::{BufRead, BufReader};
+
+// Passes over the rest of a scenario. Tells whether there is another after it.
+fn pass_over<R: BufRead>(rt: &HostRuntime, input: &mut R) -> anyhow::Result<bool> {
+    for line in input.split(rt.alloc(), b'\n') {
+        if let b"---" = line?.as_slice() {
+            return Ok(true);
+        }
+    }
+    Ok(false)
+}
 
 // Replays one scenario up to the line of dashes. Tells whether there is another after it.
 fn replay_one<R: BufRead>(rt: &HostRuntime, input: &mut R) -> anyhow::Result<bool> {
     let heap = rt.alloc();
     let mut log = String::new(heap);
-    let mut line = Vec::new(heap);
-    let mut replay = Some(Replay::new(heap));
+    let mut replay = Replay::new(heap);
     let mut more = false;
-    for number in 1..u64::MAX {
-        line.clear();
-        if input.read_until(b'\n', &mut line)? == 0 {
-            break;
-        }
-        line.truncate(line.len().saturating_sub(1));
-        if line.as_slice() == b"---".as_slice() {
+    for (number, text) in (1..u64::MAX).zip(input.by_ref().split(heap, b'\n')) {
+        let text = text?;
+        if let b"---" = text.as_slice() {
             more = true;
             break;
         }
-        replay = match replay {
-            Some(replay) => match replay.follow(heap, number, line.as_slice(), &mut log) {
-                Ok(next) => Some(next),
-                Err(wrong) => {
-                    rt.print(log.as_str())?;
-                    log.clear();
-                    println!(rt; "line {number}: {wrong}")?;
-                    None
-                }
-            },
-            None => None,
+        let line = NumberedLine {
+            number,
+            text: text.as_slice(),
+        };
+        replay = match replay.follow(heap, line, &mut log) {
+            Ok(next) => next,
+            Err(wrong) => {
+                rt.print(log.as_str())?;
+                println!(rt; "line {number}: {wrong}")?;
+                return pass_over(rt, input);
+            }
         };
     }
-    if let Some(replay) = replay {
-        replay.close(&mut log)?;
-    }
+    replay.close(&mut log)?;
     rt.print(log.as_str())?;
     Ok(more)
 }

@@ -45,10 +45,7 @@ mod sides {
             )
             .is_ok()
         );
-        assert_eq!(rt;
-            bank.refusal_at(2, Target { mode: 8, value: 6 }).is_some(),
-            true
-        );
+        assert!(rt; bank.refusal_at(2, Target { mode: 8, value: 6 }).is_some());
         assert!(rt; !bank.knows_at(3, 0));
         de_energise_all(&mut bank);
         check_power(&rt, &bank, &[false, false, false]);
@@ -59,10 +56,10 @@ mod sides {
         let mut drive = Window::new(0, 30, Window::new(0, 20, short_hoist()));
         drive.energise();
         for (value, code) in [(31, 0x0003), (21, 0x0103), (11, 0x0202)] {
-            match drive.take(Target { mode: 8, value }) {
-                Ok(()) => return Err(Fail::new("taken")),
-                Err(refusal) => assert_eq!(rt; refusal.code(), code),
-            }
+            let Err(refusal) = drive.take(Target { mode: 8, value }) else {
+                return Err(Fail::new("taken"));
+            };
+            assert_eq!(rt; refusal.code(), code);
         }
         assert!(rt; drive.take(Target { mode: 8, value: 10 }).is_ok());
         Ok(())

@@ -6,6 +6,7 @@
 #![tactic(auto)]
 
 use anyhow::anyhow;
+use bench::line::NumberedLine;
 use replay::stage::Replay;
 use std::env;
 use std::fs::File;
@@ -15,55 +16,53 @@ use std::process::ExitCode;
 // The log is written in pieces of about this many bytes.
 const PIECE: usize = 8192;
 
-// The line without the newline that ends it; the last one may have none.
-fn without_newline(line: &[u8]) -> &[u8] {
-    match line {
-        [text @ .., b'\n'] => text,
-        _ => line,
-    }
-}
-
-// Replays the scenario line by line. What is wrong with a line ends it, after everything up to the line before is written.
-fn replay_scenario<R: BufRead>(rt: &HostRuntime, input: &mut R) -> anyhow::Result<()> {
+// Replays the scenario line by line. The log keeps what is not yet written, also where an error ends the scenario.
+fn replay_lines(
+    rt: &HostRuntime,
+    input: impl BufRead + Drop,
+    log: &mut String,
+) -> anyhow::Result<()> {
     let heap = rt.alloc();
     let mut replay = Replay::new(heap);
-    let mut log = String::new(heap);
-    let mut line = Vec::new(heap);
-    for number in 1..u64::MAX {
-        line.clear();
-        if input.read_until(b'\n', &mut line)? == 0 {
-            break;
-        }
-        replay = match replay.follow(heap, number, without_newline(line.as_slice()), &mut log) {
+    for (number, text) in (1..u64::MAX).zip(input.split(heap, b'\n')) {
+        let text = text?;
+        let line = NumberedLine {
+            number,
+            text: text.as_slice(),
+        };
+        // No `map_err`: the message wants memory, so making it may fail as well.
+        replay = match replay.follow(heap, line, log) {
             Ok(next) => next,
-            Err(wrong) => {
-                rt.print(log.as_str())?;
-                return Err(anyhow!(format!(in heap; "line {number}: {wrong}")?));
-            }
+            Err(wrong) => return Err(anyhow!(format!(in heap; "line {number}: {wrong}")?)),
         };
         if log.len() >= PIECE {
-            rt.print(log.as_str())?;
+            // Where the piece cannot be printed, it is not to be tried again after the error.
+            let printed = rt.print(log.as_str());
             log.clear();
+            printed?;
         }
     }
-    replay.close(&mut log)?;
-    rt.print(log.as_str())?;
+    replay.close(log)?;
     Ok(())
 }
 
+// Replays the scenario and writes its log. Where an error ends it, everything up to it is written first.
+fn replay_scenario(rt: &HostRuntime, input: impl BufRead + Drop) -> anyhow::Result<()> {
+    let mut log = String::new(rt.alloc());
+    let outcome = replay_lines(rt, input, &mut log);
+    rt.print(log.as_str())?;
+    outcome
+}
+
 fn run(rt: &HostRuntime) -> anyhow::Result<()> {
-    let mut arguments = env::args(rt)?;
-    let _program = arguments.next();
-    let scenario = arguments.next();
-    if arguments.next().is_some() {
-        return Err(anyhow!("usage: gatelog [SCENARIO]"));
-    }
-    match scenario {
-        Some(path) => replay_scenario(
+    let mut arguments = env::args(rt)?.skip(1);
+    match (arguments.next(), arguments.next()) {
+        (None, _) => replay_scenario(rt, BufReader::new(rt.alloc(), rt.stdin())?),
+        (Some(path), None) => replay_scenario(
             rt,
-            &mut BufReader::new(rt.alloc(), File::open(rt, path.as_str())?)?,
+            BufReader::new(rt.alloc(), File::open(rt, path.as_str())?)?,
         ),
-        None => replay_scenario(rt, &mut BufReader::new(rt.alloc(), rt.stdin())?),
+        (Some(_), Some(_)) => Err(anyhow!("usage: gatelog [SCENARIO]")),
     }
 }
 

@@ -10,7 +10,7 @@ use cabinet::cabinet::Cabinet;
 use cabinet::cycle::Cycled;
 use cabinet_log::answer::{ShownBuild, ShownCycle, ShownRequest};
 use cabinet_log::standing::{write_spare_drives, write_standing};
-use call_log::call_lines::Lines;
+use call_log::call_lines::{DelayedLines, Lines};
 use calls::call::{AlRequest, Call, Cycle};
 use configured::ConfiguredBank;
 use grammar::wrong::Wrong;
@@ -71,6 +71,17 @@ impl Side {
         ensures { result ≡ delay_of self.now }
     {
         self.cabinet.delay()
+    }
+
+    // Lines of this cabinet, with its delay.
+    pub fn delayed<'a>(&self, lines: &'a Lines) -> DelayedLines<'a>
+        ensures delay { result.delay ≡ delay_of self.now }
+        ensures lines { result.lines.now ≡ lines.now }
+    {
+        DelayedLines {
+            delay: self.cabinet.delay(),
+            lines,
+        }
     }
 
     // The line at which the watch first ran out.

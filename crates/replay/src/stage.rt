@@ -10,7 +10,7 @@ use crate::closing::{write_parting, write_run_out};
 use crate::side::Side;
 use bench::line::NumberedLine;
 use bench::run::Bench;
-use call_log::call_lines::{DelayedLines, Heading, Lines, write_both_lines, write_lines};
+use call_log::call_lines::{Heading, Lines, write_both_lines, write_lines};
 use calls::call::Call;
 use calls::directive::{Build, CabinetDirective, read_cabinet_directive};
 use grammar::wrong::Wrong;
@@ -25,6 +25,7 @@ struct Benches {
 }
 
 // Two cabinets side by side, and the line at which they first stood differently.
+// Not one generic pair with `Benches`: only the names of two fields are alike.
 #[derive(Drop)]
 struct Pair {
     first: Side,
@@ -58,6 +59,7 @@ fn heading(number: u64, call: &Call) -> Heading<'static>
     Heading { number, directive }
 }
 
+// Heap, number and log come one by one: a side takes no log, and the second bench has one of its own.
 impl Benches {
     // Follows a line of the bench part. Both benches do the same, and the log shows it once.
     fn follow(
@@ -130,15 +132,12 @@ impl Pair {
     ) -> Result<(), AllocError>
         ensures { Adds result (both_text heading.entry.number heading.entry.directive.now (delay_of self.now.first) first.now (delay_of self.now.second) second.now) (string_bytes log.old) (string_bytes log.new) }
     {
-        let first = DelayedLines {
-            delay: self.first.delay(),
-            lines: first,
-        };
-        let second = DelayedLines {
-            delay: self.second.delay(),
-            lines: second,
-        };
-        write_both_lines(heading, first, second, log)
+        write_both_lines(
+            heading,
+            self.first.delayed(first),
+            self.second.delayed(second),
+            log,
+        )
     }
 
     // Makes a call to both and shows it. Where they stand differently for the first time, they part.
