@@ -1,4 +1,4 @@
-use Rattle.std.proofs.Common.{◌≡◌, true, false, [], ◌∷◌, reverse, codes, vec_items, ap, ◌∙◌, inr, rules}
+use Rattle.std.proofs.Common.{◌≡◌, true, false, codes, rules}
 use Rattle.std.specs.Str.{bytes_eq}
 use Rattle.std.proofs.lemmas.List.{reverse-append}
 use Rattle.std.proofs.lemmas.Slice.Eq.{text_from_reads}
@@ -23,10 +23,7 @@ pub loop-limits-preserved : goal.loop-limits-preserved
 loop-limits-preserved c =
     let name : c.in_ok-name.name.now ≡ codes "window" = search (rules, text_from_reads) in
     let window : bytes_eq c.in_ok-name.name.now (codes "window") ≡ true = rw name in
-    let limits = c.in_ok-take_limits-in-window.field-0 in
-    let pushed : reverse (vec_items c.push.new.self) ≡ limits ∷ reverse (vec_items c.loop-limits.limits) =
-    ap reverse c.in_ok-push-in-window.ensures.items ∙ reverse-append (vec_items c.loop-limits.limits) (limits ∷ []) in
-    rw pushed (window_read c.loop-limits.invariant c.in_ok-name.ensures window c.in_ok-take_limits-in-window.ensures)
+    search (rules, reverse-append, window_read c.loop-limits.invariant c.in_ok-name.ensures window c.in_ok-take_limits-in-window.ensures)
 
 pub returns-in_err-make-in_default : goal.returns-in_err-make-in_default
 returns-in_err-make-in_default c =
@@ -36,4 +33,4 @@ returns-in_err-make-in_default c =
 pub returns-in_default : goal.returns-in_default
 returns-in_default c =
     let other : bytes_eq c.in_ok-name.name.now (codes "window") ≡ false = search rules in
-    inr (rw (c.new.ensures, c.reverse.ensures.items) (make_read c.loop-limits.invariant c.in_ok-name.ensures other c.in_ok-make-in_default.ensures))
+    search (rules, make_read c.loop-limits.invariant c.in_ok-name.ensures other c.in_ok-make-in_default.ensures)
