@@ -6,7 +6,7 @@ use Rattle.std.proofs.lemmas.List.{length-append, length-take, get_or-take, get_
 use Rattle.drives.specs.Meaning.{DriveMeaning}
 use Rattle.std.proofs.Math.Seq.{take-set-lt}
 use Rattle.pairs.specs.declared.pair.Place.TheVariants.{First, Second}
-use Rattle.banks.specs.Lists.{most, absent, drive_at, AllLawful}
+use Rattle.banks.specs.Lists.{most, absent, AllLawful}
 use Rattle.pairs.specs.Pairs.{side_by_side, FoundAt}
 
 module _ (first second : List DriveMeaning) (few : length first ≤ most) (i : ℕ) where

@@ -1,8 +1,13 @@
-use Rattle.std.proofs.Common.{◌≡◌, rules, codes}
+use Rattle.std.proofs.Common.{◌≡◌, codes, rules}
 use Rattle.std.proofs.lemmas.Slice.Eq.{text_from_reads}
 use Rattle.calls.proofs.keyword.read_keyword.Goals as goal
 
 pub returns-in-cabinet : goal.returns-in-cabinet
 returns-in-cabinet c =
     let whole : c.args.name.now ≡ codes "cabinet" = search (rules, text_from_reads) in
+    rw whole
+
+pub returns-in-cycle : goal.returns-in-cycle
+returns-in-cycle c =
+    let whole : c.args.name.now ≡ codes "cycle" = search (rules, text_from_reads) in
     rw whole
