@@ -94,11 +94,10 @@ impl Side {
     fn request(&mut self, heap: Global, request: AlRequest) -> Result<String, Wrong>
         ensures { IfOk result (λ answer. AnswerShown 0 (Requests request) self.old self.new (string_bytes answer)) }
     {
-        let shown = ShownRequest(self.cabinet.request(
-            request.control,
-            request.output,
-            request.input,
-        ));
+        let shown = ShownRequest(
+            self.cabinet
+                .request(request.control, request.output, request.input),
+        );
         Ok(format!(in heap; "{shown}")?)
     }
 
