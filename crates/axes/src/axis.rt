@@ -37,6 +37,7 @@ pub struct Axis {
     pub state: State,
     pub wanted: i8,
     pub displayed: i8,
+    // 0 for none: a number, as the row and the object show it
     pub error: u16,
     pub layout: Layout,
     // bit 7 of the latest frame acted on in this stay in Operational; set as the stay begins

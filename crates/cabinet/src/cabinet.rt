@@ -26,7 +26,7 @@ pub struct Cabinet<B> {
 
 // What a cabinet shows of an axis: the state and the modes, the controlword of the latest frame acted on and the refusal
 // of its target, the error, the key, and what the drive holds. The record's layout and bit 7 are not shown.
-#[derive(Clone, Copy)]
+#[derive(Clone, Copy, Debug, PartialEq, Eq)]
 pub struct ShownAxis {
     pub state: State,
     pub statusword: u16,
@@ -42,10 +42,9 @@ pub struct ShownAxis {
 impl<B: Bank> Cabinet<B> {
     // Makes a cabinet with its number and its delay, which is brought into 1 to 60,000 cycles. Every drive of the bank
     // loses its power.
-    pub fn new(bank: B, number: u32, delay: u16) -> Cabinet<B>
+    pub fn new(mut bank: B, number: u32, delay: u16) -> Cabinet<B>
         ensures { standing B.meanings result ≡ made number delay (B.meanings bank) }
     {
-        let mut bank = bank;
         de_energise_all(&mut bank);
         Cabinet {
             number,
@@ -102,7 +101,7 @@ impl<B: Bank> Cabinet<B> {
     pub fn is_operational(&self) -> bool
         ensures { result ≡ operational self.now.al }
     {
-        matches!(self.al.state, AlState::Op)
+        self.al.state == AlState::Op
     }
 
     // What is shown of an axis, none beyond the axes.

@@ -38,7 +38,7 @@ pub fn answer_number(answer: Result<(), WrongLength>) -> u8
 }
 
 // A cycle's answer, and AL status after it.
-#[derive(Clone, Copy)]
+#[derive(Clone, Copy, Debug, PartialEq, Eq)]
 pub struct Cycled {
     pub answer: Result<(), WrongLength>,
     pub status: u16,

@@ -10,7 +10,7 @@ use fieldbus::al::{AlState, Lengths};
 use profile::image::ROW_LENGTH;
 
 // What an AL request answers: the two numbers of the standard.
-#[derive(Clone, Copy)]
+#[derive(Clone, Copy, Debug, PartialEq, Eq)]
 pub struct AlAnswer {
     pub status: u16,
     pub code: u16,

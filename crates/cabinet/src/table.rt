@@ -7,7 +7,8 @@ use axes::axis::Axis;
 // How many axes a cabinet has at most.
 pub const MOST_AXES: usize = 8;
 
-// The records of the axes. The table has room for 8; a cabinet with fewer axes uses the first of them.
+// The records of the axes. The table has room for 8; a cabinet with fewer axes uses the first of them. A plain array:
+// nothing in a cabinet allocates, and the bank says how many axes there are.
 #[derive(Clone, Copy)]
 pub struct Table {
     pub axes: [Axis; MOST_AXES],

@@ -2,7 +2,7 @@
 ghost use Rattle.std.specs.Prelude.{◌≡◌};
 ghost use Rattle.calls.specs.Calls.{keyword_of};
 
-// A call, by its name.
+// A call, by its name alone: what it is given is read after it.
 #[derive(Clone, Copy)]
 pub enum CallName {
     Request,

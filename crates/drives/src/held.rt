@@ -4,7 +4,8 @@ ghost use Rattle.drives.specs.Holdings.{at_rest, energised_held, de_energised_he
 
 use crate::target::{Cause, Refusal, Target};
 
-// What a drive holds: power, the carried target, the trouble code (0 for none), position and velocity.
+// What a drive holds: power, the carried target, the trouble code (0 for none), position and velocity. The code stays a
+// number: a record brings it as one, and an axis shows it as one.
 #[derive(Clone, Copy, Debug, PartialEq, Eq, Default)]
 pub struct Held {
     pub powered: bool,
@@ -22,6 +23,7 @@ impl Held {
         Held::default()
     }
 
+    // Two operations with names of their own, and no one with a flag: no drive is switched by a value.
     pub fn energise(&mut self)
         ensures { self.new ≡ energised_held self.old }
     {

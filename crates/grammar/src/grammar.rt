@@ -42,6 +42,7 @@ pub fn take_bytes(heap: Global, words: &mut Words<'_>) -> Result<Vec<u8>, Wrong>
 pub fn take_end(words: &mut Words<'_>) -> Result<(), Wrong>
     ensures { result ≡ ended tt words.old }
 {
+    // No method of `Option` makes an error of what is there.
     match words.next() {
         Some(_) => Err(Wrong::SuperfluousWord),
         None => Ok(()),

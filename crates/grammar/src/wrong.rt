@@ -37,6 +37,7 @@ impl From<Fault> for Wrong {
     }
 }
 
+// Memory may be wanting with a value that is handed back, and without one: the library has an error for each.
 impl<T: Drop> From<AllocFailed<T>> for Wrong {
     ghost from_gives = { λ _ r. r ≡ Word NoMemory };
 

@@ -43,7 +43,8 @@ impl<F: Bank, S: Bank> Pair<F, S> {
     }
 }
 
-// Hands a call on to the bank in which the number is found.
+// Hands a call on to the bank in which the number is found. No function lends the drive that is found, since the two
+// banks have drives of two types.
 macro_rules! handed_on {
     ($pair:ident, $number:ident, $call:ident($($argument:expr),*)) => {
         match $pair.place($number) {

@@ -21,7 +21,7 @@ impl From<Command> for u8 {
 }
 
 impl Command {
-    // The command in bits 0-3 of a controlword. The other bits do not matter.
+    // The command in bits 0-3 of a controlword. The other bits do not matter, so this is no conversion.
     #[tactic(auto, unfolding(crate::specs::Commands::command_of))]
     pub fn of(controlword: u16) -> Command
         ensures { result ≡ command_of controlword }

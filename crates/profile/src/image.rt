@@ -16,7 +16,8 @@ pub struct Inputs {
 }
 
 impl Inputs {
-    // Statusword, position, velocity, displayed mode and error, in this order, lowest byte first.
+    // Statusword, position, velocity, displayed mode and error, in this order, lowest byte first. By name: a `From` would
+    // not say what the bytes are.
     #[tactic(auto, unfolding(crate::specs::Status::row_bytes))]
     pub fn row(self) -> [u8; ROW_LENGTH]
         ensures { result ≡ row_bytes self }

@@ -164,6 +164,7 @@ impl Pair {
 fn check_no_bench(heap: Global, line: &[u8]) -> Result<(), Wrong>
     ensures { IfOk result (λ done. NoWord line.now) }
 {
+    // No method of `Option` makes an error of what is there.
     match read_directive(heap, line)? {
         Some(_) => Err(Wrong::BenchAfterCabinet),
         None => Ok(()),

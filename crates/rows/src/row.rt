@@ -59,6 +59,7 @@ impl<D: Drive> Row<D> {
     }
 }
 
+// Each method is a line: one function over all of them would take the call as a closure, and say less.
 impl<D: Drive> Bank for Row<D> {
     ghost meanings = { λ b. in_row D.Drive.meaning b };
 

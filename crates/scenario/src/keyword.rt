@@ -2,7 +2,7 @@
 ghost use Rattle.std.specs.Prelude.{◌≡◌};
 ghost use Rattle.scenario.specs.Directives.{keyword_of};
 
-// An operation on a drive, by its name.
+// An operation on a drive, by its name alone: what it is given is read after it.
 #[derive(Clone, Copy)]
 pub enum Verb {
     Energise,

@@ -6,7 +6,8 @@ use drives::drive::{Drive, RECORD_LENGTH};
 use drives::held::Held;
 use drives::target::{Refusal, Target};
 
-// What stands above a drive: it may keep targets out, and says how a refusal from below is seen.
+// What stands above a drive: it may keep targets out, and says how a refusal from below is seen. The position is what
+// the drive holds, the target what a caller gives: they meet in these questions alone.
 pub trait Guard {
     ghost keeps_out: { Self → KeepsOut };
 
