@@ -1,6 +1,7 @@
 // Any number of windows over a drive.
 ghost use Rattle.std.specs.Prelude.{◌≡◌};
-ghost use Rattle.stacks.specs.Enclosures.{any_keeps_out, refusal_above_all};
+ghost use Rattle.drives.specs.Meaning.{DriveMeaning};
+ghost use Rattle.stacks.specs.Enclosures.{enclosed, stacked, any_keeps_out, refusal_above_all};
 ghost use Rattle.stacks.specs.Enclosed.{windows_refuse_exactly};
 
 use drives::target::{Refusal, Target};
@@ -14,9 +15,12 @@ pub struct Enclosure {
 }
 
 impl Enclosure {
-    // The limits stand from the innermost window to the outermost.
+    // The limits stand from the innermost window to the outermost. Over any drive they mean so many windows one over the
+    // other.
+    #[tactic(auto, using(crate::specs::Enclosed::stacked_is_enclosed))]
     pub fn new(windows: Vec<Limits>) -> Enclosure
-        ensures { result ≡ record { windows = windows } }
+        ensures given { result ≡ record { windows = windows } }
+        ensures one_over_the_other { (drive : DriveMeaning) → stacked drive windows.items ≡ enclosed drive windows.items }
     {
         Enclosure { windows }
     }
