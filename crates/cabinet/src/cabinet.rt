@@ -101,7 +101,7 @@ impl<B: Bank> Cabinet<B> {
     pub fn is_operational(&self) -> bool
         ensures { result ≡ operational self.now.al }
     {
-        self.al.state == AlState::Op
+        matches!(self.al.state, AlState::Op)
     }
 
     // What is shown of an axis, none beyond the axes.

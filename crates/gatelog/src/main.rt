@@ -16,42 +16,32 @@ use std::process::ExitCode;
 // The log is written in pieces of about this many bytes.
 const PIECE: usize = 8192;
 
-// Replays the scenario line by line. The log keeps what is not yet written, also where an error ends the scenario.
-fn replay_lines(
-    rt: &HostRuntime,
-    input: impl BufRead + Drop,
-    log: &mut String,
-) -> anyhow::Result<()> {
+// Replays the scenario line by line. What is wrong with a line ends it, after everything up to the line before is written.
+fn replay_scenario(rt: &HostRuntime, input: impl BufRead + Drop) -> anyhow::Result<()> {
     let heap = rt.alloc();
     let mut replay = Replay::new(heap);
+    let mut log = String::new(heap);
     for (number, text) in (1..u64::MAX).zip(input.split(heap, b'\n')) {
         let text = text?;
         let line = NumberedLine {
             number,
             text: text.as_slice(),
         };
-        // No `map_err`: the message wants memory, so making it may fail as well.
-        replay = match replay.follow(heap, line, log) {
+        replay = match replay.follow(heap, line, &mut log) {
             Ok(next) => next,
-            Err(wrong) => return Err(anyhow!(format!(in heap; "line {number}: {wrong}")?)),
+            Err(wrong) => {
+                rt.print(log.as_str())?;
+                return Err(anyhow!(format!(in heap; "line {number}: {wrong}")?));
+            }
         };
         if log.len() >= PIECE {
-            // Where the piece cannot be printed, it is not to be tried again after the error.
-            let printed = rt.print(log.as_str());
+            rt.print(log.as_str())?;
             log.clear();
-            printed?;
         }
     }
-    replay.close(log)?;
-    Ok(())
-}
-
-// Replays the scenario and writes its log. Where an error ends it, everything up to it is written first.
-fn replay_scenario(rt: &HostRuntime, input: impl BufRead + Drop) -> anyhow::Result<()> {
-    let mut log = String::new(rt.alloc());
-    let outcome = replay_lines(rt, input, &mut log);
+    replay.close(&mut log)?;
     rt.print(log.as_str())?;
-    outcome
+    Ok(())
 }
 
 fn run(rt: &HostRuntime) -> anyhow::Result<()> {
