@@ -1,8 +1,10 @@
 // What is wrong with a word.
 ghost use Rattle.std.specs.Prelude.{◌≡◌};
 ghost use Rattle.text.specs.ByteTexts.{fault_of};
+ghost use Rattle.text.specs.declared.fault.Fault.TheVariants.{NoMemory};
 
 use hex::FromHexError;
+use std::alloc::AllocFailed;
 use thiserror::Error;
 
 #[derive(Clone, Copy, Debug, PartialEq, Eq, Error)]
@@ -30,5 +32,13 @@ impl From<FromHexError> for Fault {
             FromHexError::OddLength => Fault::OddDigits,
             FromHexError::OutOfMemory => Fault::NoMemory,
         }
+    }
+}
+
+impl<T: Drop> From<AllocFailed<T>> for Fault {
+    ghost from_gives = { λ _ r. r ≡ NoMemory };
+
+    fn from(_e: AllocFailed<T>) -> Fault {
+        Fault::NoMemory
     }
 }
