@@ -1,29 +1,20 @@
 -- A cycle of an axis: the drive samples, moves with the axis and acts on a part, beyond the bank too.
-use Rattle.std.proofs.Common.{◌≡◌, ℕ, Bool, true, false, cond, not, ◌&&◌, List, ℤ, Some, None, Option, refl, ap}
+use Rattle.std.proofs.Common.{◌≡◌, ℕ, Bool, cond, not, ◌&&◌, List, ℤ, Some, None, Option, refl, ap, arith}
 use Rattle.drives.specs.declared.target.Target.{Target}
-use Rattle.drives.specs.Meaning.{DriveMeaning, Make, energised, held_still, sampled}
+use Rattle.drives.specs.Meaning.{DriveMeaning, Make, sampled}
 use Rattle.banks.specs.Lists.{absent, drive_at, changed}
 use Rattle.fieldbus.specs.declared.frame.Part.{Part}
 use Rattle.profile.specs.declared.state.State.{State}
-use Rattle.profile.specs.declared.state.State.TheVariants.{NotReady, SwitchOnDisabled, Ready, SwitchedOn, OperationEnabled, QuickStopActive, FaultReactionActive, Fault}
 use Rattle.axes.specs.declared.axis.Axis.{Axis}
 use Rattle.axes.specs.declared.axis.Line.{Line}
 use Rattle.axes.specs.declared.axis.Line.TheVariants.{Acts, RunsOut, Quiet}
-use Rattle.axes.specs.Moves.{entering, is_ready}
+use Rattle.axes.specs.Moves.{entering}
 use Rattle.axes.specs.Steps.{or_kept, displayed_by, named_target, refusal_of, acted, after_move, heeded}
 use Rattle.axes.proofs.Changes.{seen_after}
 
 -- a move leaves the make of the drive alone
 entering_make : (from next : State) (drive : DriveMeaning) → (entering from next drive).make ≡ drive.make
-entering_make from NotReady drive = refl
-entering_make from SwitchOnDisabled drive = refl
-entering_make from Ready drive = refl
-entering_make from SwitchedOn drive =
-    elim (is_ready from) as (λ ready. (cond {A = DriveMeaning} ready (energised drive) (held_still drive)).make ≡ drive.make) [ true ↦ refl | false ↦ refl ]
-entering_make from OperationEnabled drive = refl
-entering_make from QuickStopActive drive = refl
-entering_make from FaultReactionActive drive = refl
-entering_make from Fault drive = refl
+entering_make from next drive = grind arith
 
 after_make : (from : State) (move : Option State) (drive : DriveMeaning) → (after_move from move drive).make ≡ drive.make
 after_make from None drive = refl

@@ -1,4 +1,5 @@
-// One axis.
+// One axis. The drive that it operates comes as a bank and a number: a struct that lends one drive would wrap seven
+// operations of `Bank`, and no `dyn` of a type parameter can be made.
 ghost use Rattle.std.specs.Prelude.{◌≡◌, ℕ, Some};
 ghost use Rattle.profile.specs.declared.state.State.TheVariants.{FaultReactionActive};
 ghost use Rattle.banks.specs.Lists.{drive_at, changed};
@@ -37,7 +38,7 @@ pub struct Axis {
     pub state: State,
     pub wanted: i8,
     pub displayed: i8,
-    // 0 for none: a number, as the row and the object show it
+    // 0 for none: a number, as the row of the return image shows it
     pub error: u16,
     pub layout: Layout,
     // bit 7 of the latest frame acted on in this stay in Operational; set as the stay begins
@@ -48,8 +49,6 @@ pub struct Axis {
     pub refusal: Option<Refusal>,
     pub key_out: bool,
 }
-
-// A bank and a number go side by side: a struct that lends one drive would wrap seven operations of `Bank`.
 
 // What a move does to the drive: the state entered, if any, decides.
 #[tactic(auto, using(crate::proofs::Changes::unchanged))]

@@ -56,8 +56,7 @@ pub trait Bank {
 pub fn de_energise_all<B: Bank>(bank: &mut B)
     ensures { B.meanings bank.new ≡ map de_energised (B.meanings bank.old) }
 {
-    let count = bank.count();
-    for number in 0..count {
+    for number in 0..bank.count() {
         bank.de_energise_at(number);
     }
 }

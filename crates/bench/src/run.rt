@@ -7,7 +7,6 @@ ghost use Rattle.scenario.specs.Heard.{says};
 ghost use Rattle.bench.specs.Operations.{operated, operation_answer};
 ghost use Rattle.bench.specs.Benches.{bank_is, name_of, LineShows, LineFollowed};
 
-use crate::line::NumberedLine;
 use crate::log::BenchLine;
 use banks::bank::Bank;
 use configured::ConfiguredBank;
@@ -15,6 +14,7 @@ use drive_log::drive::ShownDrive;
 use drives::held::Held;
 use drives::target::Refusal;
 use grammar::wrong::Wrong;
+use lines::numbered::NumberedLine;
 use scenario::directive::{Directive, Operation, read_directive};
 use std::alloc::Global;
 use std::fmt::Write;

@@ -2,8 +2,8 @@
 // What a line writes to the log is printed, or what is wrong with it; the next line is then followed all the same.
 #![tactic(auto)]
 
-use bench::line::NumberedLine;
 use bench::run::Bench;
+use lines::numbered::NumberedLine;
 use std::io::{BufRead, BufReader};
 
 // Follows one line, and prints what it shows.

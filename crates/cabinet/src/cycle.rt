@@ -5,7 +5,7 @@ ghost use Rattle.cabinet.specs.Cabinets.{standing, axis_count, stepped};
 ghost use Rattle.cabinet.specs.Cycles.{answer_number, checked, heard_by, after_hearing, line_read, rest_read, WholeFrame, cycle_brings, after_cycle, row_of, rows_of, image_of, unless_refused};
 
 use crate::cabinet::Cabinet;
-use crate::step::Event;
+use crate::step::AxisEvent;
 use axes::axis::Line;
 use banks::bank::Bank;
 use drives::drive::RECORD_LENGTH;
@@ -45,7 +45,7 @@ pub struct Cycled {
 }
 
 // What the line brings the whole cabinet in a cycle. Each axis's Line has its part besides: one enum generic in the part
-// would say Acts(()) here.
+// would say Acts(()) here. That it brings nothing is a case beside the others, and no absence of one.
 #[derive(Clone, Copy)]
 pub enum Heard {
     // a frame that is acted on
@@ -115,7 +115,7 @@ impl<B: Bank> Cabinet<B> {
         for (number, record) in (0..self.axis_count()).zip(each) {
             let layout = self.table.axes[usize::from(number)].layout;
             let line = line_for(heard, &mut reader, layout);
-            self.step(number, Event::Cycles(line, record));
+            self.step(number, AxisEvent::Cycles(line, record));
         }
     }
 

@@ -4,7 +4,7 @@ ghost use Rattle.cabinet.specs.Cabinets.{standing};
 ghost use Rattle.cabinet.specs.Requests.{needed_lengths, passage, passed, after_request, answer_of};
 
 use crate::cabinet::Cabinet;
-use crate::step::Event;
+use crate::step::AxisEvent;
 use banks::bank::Bank;
 use fieldbus::al::{AlState, Lengths};
 use profile::image::ROW_LENGTH;
@@ -36,10 +36,10 @@ impl<B: Bank> Cabinet<B> {
         match (before, self.al.state) {
             (AlState::SafeOp, AlState::Op) => {
                 self.watch.restart();
-                self.step_each(Event::StayBegins);
+                self.step_each(AxisEvent::StayBegins);
             }
             (AlState::Op, AlState::Init | AlState::PreOp | AlState::SafeOp) => {
-                self.step_each(Event::LineLost)
+                self.step_each(AxisEvent::LineLost)
             }
             _ => {}
         }

@@ -8,9 +8,9 @@ use axes::axis::Line;
 use banks::bank::Bank;
 use drives::drive::RECORD_LENGTH;
 
-// What a call brings an axis.
+// What a call brings an axis. An enum and no closure: a contract names it, as an event of the rules.
 #[derive(Clone, Copy)]
-pub enum Event<'a> {
+pub enum AxisEvent<'a> {
     // an accepted cycle, with what the line brings and the field record
     Cycles(Line, &'a [u8; RECORD_LENGTH]),
     // a stay in Operational begins
@@ -22,20 +22,20 @@ pub enum Event<'a> {
 impl<B: Bank> Cabinet<B> {
     // One axis steps: its record is lent to the step, beside the bank.
     #[tactic(auto, unfolding(axes::specs::Steps::axis_under, axes::specs::Steps::drive_under))]
-    pub(crate) fn step(&mut self, number: u8, event: Event<'_>)
+    pub(crate) fn step(&mut self, number: u8, event: AxisEvent<'_>)
         requires { number < 8 }
         ensures { OneStep number (brought event.entry) (standing B.meanings self.old) (standing B.meanings self.new) }
     {
         let axis = &mut self.table.axes[usize::from(number)];
         match event {
-            Event::Cycles(line, record) => axis.cycle(&mut self.bank, number, record, line),
-            Event::StayBegins => axis.begin_stay(),
-            Event::LineLost => axis.lose_line(&mut self.bank, number),
+            AxisEvent::Cycles(line, record) => axis.cycle(&mut self.bank, number, record, line),
+            AxisEvent::StayBegins => axis.begin_stay(),
+            AxisEvent::LineLost => axis.lose_line(&mut self.bank, number),
         }
     }
 
     // Every axis steps under the same event, one after the other.
-    pub(crate) fn step_each(&mut self, event: Event<'_>)
+    pub(crate) fn step_each(&mut self, event: AxisEvent<'_>)
         ensures { standing B.meanings self.new ≡ stepped (λ i. brought event.entry) (standing B.meanings self.old) }
     {
         for number in 0..self.axis_count() {

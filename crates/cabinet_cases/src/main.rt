@@ -2,7 +2,7 @@
 // numbers. The log of each is printed as `gatelog` prints it; a wrong line ends its scenario with a line that says so.
 #![tactic(auto)]
 
-use bench::line::NumberedLine;
+use lines::numbered::NumberedLine;
 use replay::stage::Replay;
 use std::io::{BufRead, BufReader};
 

@@ -12,6 +12,7 @@ use std::alloc::AllocError;
 use std::fmt::Write;
 
 // Adds the line of an axis to the log.
+#[tactic(auto, unfolding(crate::specs::CabinetTexts::axis_line))]
 fn write_axis<B: Bank>(cabinet: &Cabinet<B>, number: u8, log: &mut String) -> Result<(), AllocError>
     ensures { Adds result (axis_line (standing B.meanings cabinet.now) number) (string_bytes log.old) (string_bytes log.new) }
 {

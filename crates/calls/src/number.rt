@@ -4,7 +4,7 @@ ghost use Rattle.text.specs.Numerals.{unsigned_of};
 ghost use Rattle.grammar.specs.Grammar.{leaving, unsigned_in};
 ghost use Rattle.calls.specs.Calls.{optional_in};
 
-use grammar::grammar::take_word;
+use grammar::grammar::take_unsigned;
 use grammar::wrong::Wrong;
 use lines::words::Words;
 use text::fault::Fault;
@@ -20,8 +20,7 @@ fn number(word: &[u8], highest: u16) -> Result<u16, Fault>
 pub(crate) fn take_u16(words: &mut Words<'_>) -> Result<u16, Wrong>
     ensures { leaving result words.new ≡ unsigned_in 65535 words.old }
 {
-    let word = take_word(words)?;
-    Ok(number(word, u16::MAX)?)
+    Ok(take_unsigned(words, u32::from(u16::MAX))? as u16)
 }
 
 // A number where a word is left for it.

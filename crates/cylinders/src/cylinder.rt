@@ -12,7 +12,7 @@ use drives::target::Target;
 // The trouble of a sensor whose current is out of its range.
 const SENSOR_TROUBLE: u16 = 0x7300;
 
-// A cylinder is known by the scale of its position sensor.
+// The make of a cylinder is the scale of its position sensor.
 pub type Cylinder = MadeDrive<Scale>;
 
 impl DriveMake for Scale {

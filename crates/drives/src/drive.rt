@@ -1,4 +1,4 @@
-// The trait that every make of drive stands behind.
+// The trait that every drive stands behind.
 ghost use Rattle.std.specs.Prelude.{◌≡◌};
 ghost use Rattle.drives.specs.Meaning.{DriveMeaning, Lawful, energised, de_energised, held_still, sampled, taken, take_answer, known_by, admitted_by, refused_by, reading_of};
 

@@ -23,7 +23,7 @@ impl Held {
         Held::default()
     }
 
-    // Two operations with names of their own, and no one with a flag: no drive is switched by a value.
+    // Two operations with names of their own, and not one with a flag: no drive is switched by a value.
     pub fn energise(&mut self)
         ensures { self.new ≡ energised_held self.old }
     {

@@ -8,7 +8,7 @@ use crate::held::Held;
 use crate::target::{Refusal, Target};
 
 // A make: what the maker's numbers say, which never change. What a drive of the make holds is no part of it, and is
-// handed in where an answer may depend on it.
+// handed in where an answer may depend on it; no make of today looks at it.
 pub trait DriveMake {
     ghost make: { Self → Make };
 

@@ -6,7 +6,7 @@
 #![tactic(auto)]
 
 use anyhow::anyhow;
-use bench::line::NumberedLine;
+use lines::numbered::NumberedLine;
 use replay::stage::Replay;
 use std::env;
 use std::fs::File;
@@ -31,7 +31,7 @@ fn replay_scenario(rt: &HostRuntime, input: impl BufRead + Drop) -> anyhow::Resu
             Ok(next) => next,
             Err(wrong) => {
                 rt.print(log.as_str())?;
-                return Err(anyhow!(format!(in heap; "line {number}: {wrong}")?));
+                return Err(anyhow!("line {number}: {wrong}"));
             }
         };
         if log.len() >= PIECE {

@@ -16,7 +16,8 @@ pub fn take_word<'a>(words: &mut Words<'a>) -> Result<&'a [u8], Wrong>
     words.next().ok_or(Wrong::MissingWord)
 }
 
-// A caller casts what is to fit fewer bits: one function for every type would need a trait, and its five impls would say no less.
+// A caller casts what is to fit fewer bits, here and in what is built on this: over `T: TryFrom<u32>` a clause would hang
+// on what each type says of itself, and be no equation.
 pub fn take_unsigned(words: &mut Words<'_>, highest: u32) -> Result<u32, Wrong>
     ensures { leaving result words.new ≡ unsigned_in highest words.old }
 {
@@ -42,7 +43,7 @@ pub fn take_bytes(heap: Global, words: &mut Words<'_>) -> Result<Vec<u8>, Wrong>
 pub fn take_end(words: &mut Words<'_>) -> Result<(), Wrong>
     ensures { result ≡ ended tt words.old }
 {
-    // No method of `Option` makes an error of what is there.
+    // `map_or` with a unit in it is no plainer.
     match words.next() {
         Some(_) => Err(Wrong::SuperfluousWord),
         None => Ok(()),

@@ -26,10 +26,7 @@ fn is_blank(byte: u8) -> bool
 fn without_return(line: &[u8]) -> &[u8]
     ensures { result.now ≡ without_return line.now }
 {
-    match line {
-        [text @ .., b'\r'] => text,
-        _ => line,
-    }
+    line.strip_suffix(b"\r").unwrap_or(line)
 }
 
 fn without_comment(text: &[u8]) -> &[u8]

@@ -15,8 +15,8 @@ pub struct Pair<A, B> {
     second: B,
 }
 
-// Where a number of a pair is found: a number of the first bank or of the second. The kit's `Either` would only say left
-// and right for it.
+// Where a number of a pair is found: a number of the first bank or of the second. The library's `Either` would only say
+// left and right for it.
 #[derive(Clone, Copy)]
 pub enum Place {
     First(u8),
@@ -43,8 +43,8 @@ impl<F: Bank, S: Bank> Pair<F, S> {
     }
 }
 
-// Hands a call on to the bank in which the number is found. No function lends the drive that is found, since the two
-// banks have drives of two types.
+// Hands a call on to the bank in which the number is found. No function lends the drive that is found: the two banks
+// have drives of two types, and no `dyn` of a type parameter can be made.
 macro_rules! handed_on {
     ($pair:ident, $number:ident, $call:ident($($argument:expr),*)) => {
         match $pair.place($number) {

@@ -79,7 +79,7 @@ impl Side {
         ensures lines { result.lines.now ≡ lines.now }
     {
         DelayedLines {
-            delay: self.cabinet.delay(),
+            delay: self.delay(),
             lines,
         }
     }

@@ -1,4 +1,5 @@
-// A scenario followed line by line.
+// A scenario followed line by line. Heap, number and log come one by one: a side takes no log, and the second bench has
+// one of its own.
 ghost use Rattle.std.specs.Prelude.{◌≡◌, IfOk, string_bytes, MatchResult};
 ghost use Rattle.drive_log.specs.Added.{Adds};
 ghost use Rattle.calls.specs.Heard.{call_asks};
@@ -8,12 +9,12 @@ ghost use Rattle.replay.specs.Stages.{name_of, closing_text, NoWord, OneFollows,
 
 use crate::closing::{write_parting, write_run_out};
 use crate::side::Side;
-use bench::line::NumberedLine;
 use bench::run::Bench;
 use call_log::call_lines::{Heading, Lines, write_both_lines, write_lines};
 use calls::call::Call;
 use calls::directive::{Build, CabinetDirective, read_cabinet_directive};
 use grammar::wrong::Wrong;
+use lines::numbered::NumberedLine;
 use scenario::directive::read_directive;
 use std::alloc::{AllocError, Global};
 
@@ -59,7 +60,6 @@ fn heading(number: u64, call: &Call) -> Heading<'static>
     Heading { number, directive }
 }
 
-// Heap, number and log come one by one: a side takes no log, and the second bench has one of its own.
 impl Benches {
     // Follows a line of the bench part. Both benches do the same, and the log shows it once.
     fn follow(
@@ -164,7 +164,7 @@ impl Pair {
 fn check_no_bench(heap: Global, line: &[u8]) -> Result<(), Wrong>
     ensures { IfOk result (λ done. NoWord line.now) }
 {
-    // No method of `Option` makes an error of what is there.
+    // `map_or` with a unit in it is no plainer.
     match read_directive(heap, line)? {
         Some(_) => Err(Wrong::BenchAfterCabinet),
         None => Ok(()),

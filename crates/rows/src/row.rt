@@ -59,7 +59,8 @@ impl<D: Drive> Row<D> {
     }
 }
 
-// Each method is a line: one function over all of them would take the call as a closure, and say less.
+// Each method is a line over `place`. One that lends the drive by `&mut` would owe a clause on what it ends as, and no
+// contract of the ten would be shorter for it.
 impl<D: Drive> Bank for Row<D> {
     ghost meanings = { λ b. in_row D.Drive.meaning b };
 

@@ -35,6 +35,7 @@ impl From<FromHexError> for Fault {
     }
 }
 
+// For callers that gather values of their own.
 impl<T: Drop> From<AllocFailed<T>> for Fault {
     ghost from_gives = { λ _ r. r ≡ NoMemory };
 

@@ -65,6 +65,7 @@ impl<G: Guard, D: Drive> Drive for Guarded<G, D> {
         self.below.sample(record);
     }
 
+    // Asks before it takes: to ask on the way down would owe a law that a guard which keeps out answers whatever is below.
     fn take(&mut self, target: Target) -> Result<(), Refusal> {
         match self.refusal(target) {
             Some(refusal) => Err(refusal),

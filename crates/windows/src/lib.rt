@@ -1,4 +1,4 @@
-// Windows over any drive.
+// Guards over any drive, and windows, which are limits as a guard.
 #![tactic(auto)]
 
 pub mod guard;

@@ -6,8 +6,3 @@ pub returns-in-cabinet : goal.returns-in-cabinet
 returns-in-cabinet c =
     let whole : c.args.name.now ≡ codes "cabinet" = search (rules, text_from_reads) in
     rw whole
-
-pub returns-in-cycle : goal.returns-in-cycle
-returns-in-cycle c =
-    let whole : c.args.name.now ≡ codes "cycle" = search (rules, text_from_reads) in
-    rw whole

@@ -1,8 +1,0 @@
-// A line of a scenario.
-
-// The bytes of the line without its newline, and its number in the scenario.
-#[derive(Clone, Copy)]
-pub struct NumberedLine<'a> {
-    pub number: u64,
-    pub text: &'a [u8],
-}
