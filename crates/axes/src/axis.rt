@@ -1,5 +1,6 @@
 // One axis. The drive that it operates comes as a bank and a number: a struct that lends one drive would wrap seven
-// operations of `Bank`, and no `dyn` of a type parameter can be made.
+// operations of `Bank`, and no `dyn` of a type parameter can be made. Whether operation was enabled as a cycle began is
+// no part of the record, and goes beside it.
 ghost use Rattle.std.specs.Prelude.{◌≡◌, ℕ, Some};
 ghost use Rattle.profile.specs.declared.state.State.TheVariants.{FaultReactionActive};
 ghost use Rattle.banks.specs.Lists.{drive_at, changed};

@@ -104,7 +104,7 @@ impl<B: Bank> Cabinet<B> {
         Heard::Nothing
     }
 
-    // Every axis steps through its part of the cycle, one after the other.
+    // Every axis steps through its part of the cycle, one after the other. Not `step_each`: each has an event of its own.
     fn cycle_each(&mut self, heard: Heard, frame: &[u8], records: &[u8])
         requires whole_frame { WholeFrame heard frame.now self.old.table.axes (axis_count (B.meanings self.old.bank)) }
         requires all_records { length records.now ≡ 12 * axis_count (B.meanings self.old.bank) }

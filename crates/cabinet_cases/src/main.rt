@@ -21,6 +21,7 @@ fn replay_one<R: BufRead>(rt: &HostRuntime, input: &mut R) -> anyhow::Result<boo
     let heap = rt.alloc();
     let mut log = String::new(heap);
     let mut replay = Replay::new(heap);
+    // Told at the end, since the log is closed first.
     let mut more = false;
     for (number, text) in (1..u64::MAX).zip(input.by_ref().split(heap, b'\n')) {
         let text = text?;

@@ -16,13 +16,11 @@ use std::fmt::Write;
 fn write_axis<B: Bank>(cabinet: &Cabinet<B>, number: u8, log: &mut String) -> Result<(), AllocError>
     ensures { Adds result (axis_line (standing B.meanings cabinet.now) number) (string_bytes log.old) (string_bytes log.new) }
 {
-    match cabinet.axis(number) {
-        Some(axis) => {
-            let line = AxisLine { number, axis };
-            writeln!(log, "{line}")
-        }
-        None => Ok(()),
-    }
+    let Some(axis) = cabinet.axis(number) else {
+        return Ok(());
+    };
+    let line = AxisLine { number, axis };
+    writeln!(log, "{line}")
 }
 
 // Adds to the log how the cabinet stands: AL, and below it each axis.

@@ -77,6 +77,7 @@ impl Held {
         ensures carries { self.new ≡ taken_held target refusal self.old }
         ensures answers { result ≡ answered refusal }
     {
+        // Each arm does something of its own: no method of `Option` says both.
         match refusal {
             Some(refusal) => Err(refusal),
             None => {

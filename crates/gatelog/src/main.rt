@@ -29,6 +29,7 @@ fn replay_scenario(rt: &HostRuntime, input: impl BufRead + Drop) -> anyhow::Resu
         };
         replay = match replay.follow(heap, line, &mut log) {
             Ok(next) => next,
+            // The log goes out before the error, which `map_err` could not see to.
             Err(wrong) => {
                 rt.print(log.as_str())?;
                 return Err(anyhow!("line {number}: {wrong}"));

@@ -29,6 +29,7 @@ pub enum Wrong {
     Word(Fault),
 }
 
+// By hand, since a clause names what comes of it.
 impl From<Fault> for Wrong {
     ghost from_gives = { λ fault r. r ≡ Word fault };
 

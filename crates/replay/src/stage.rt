@@ -106,7 +106,7 @@ impl Benches {
     }
 }
 
-// Makes a call to one cabinet and shows it.
+// Makes a call to one cabinet and shows it. Not the half of a call to two, which are compared before they are shown.
 fn call_one(
     side: &mut Side,
     heap: Global,
