@@ -169,7 +169,7 @@ impl<B: Bank> Cabinet<B> {
     }
 
     // A cycle: a frame, empty where none came, a field record for each axis, and the return image, of which an accepted
-    // cycle writes every byte. A refused cycle changes nothing.
+    // cycle writes every byte. A refused cycle changes nothing. Three slices and no struct of them: each is the caller's.
     pub fn cycle(&mut self, frame: &[u8], records: &[u8], image: &mut [u8]) -> Cycled
         ensures answers { result.answer ≡ checked (length records.now) (length frame.now) (length image.old) (standing B.meanings self.old) }
         ensures al_status { result.status ≡ al_status self.new.al }
