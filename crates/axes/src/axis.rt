@@ -22,7 +22,7 @@ use profile::statusword::{Flags, statusword};
 // The error of an axis that was stopped because the line was lost.
 const LINE_LOSS: u16 = 0x8100;
 
-// What the line brings an axis in a cycle.
+// What the line brings an axis in a cycle. That it brings nothing is a case beside the others, and no absence of one.
 #[derive(Clone, Copy, Debug, PartialEq, Eq)]
 pub enum Line {
     // a frame that is acted on, with the axis's part of it

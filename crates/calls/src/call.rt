@@ -1,4 +1,5 @@
-// A call of a cabinet, with what it is given.
+// A call of a cabinet, with what it is given. The heap comes beside the words, since most that is taken from them needs
+// none.
 ghost use Rattle.std.specs.Prelude.{◌≡◌};
 ghost use Rattle.grammar.specs.Grammar.{leaving, heard_as, UnlessNoMemory};
 ghost use Rattle.calls.specs.Calls.{request_in, cycle_in, call_in};

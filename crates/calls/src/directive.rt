@@ -54,7 +54,7 @@ fn take_arguments(
 
 // What a line says: a directive of the cabinet part, or what is wrong with it. A line that begins with another word,
 // or has none, is not of this part. (The bench part has a function of this shape, which tells such a word as wrong: two
-// functions of six lines, and no third over both.)
+// short functions, and no third over both.)
 #[tactic(auto, unfolding(grammar::specs::Grammar::ended))]
 pub fn read_cabinet_directive(heap: Global, line: &[u8]) -> Result<Option<CabinetDirective>, Wrong>
     ensures { UnlessNoMemory (heard_as (option_map cabinet_says) result) (cabinet_line_says line.now) }

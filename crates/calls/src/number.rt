@@ -1,4 +1,4 @@
-// Numbers of 16 bits.
+// Numbers of 16 bits, cast from wider ones: one function for every type would have no equation for its clause.
 ghost use Rattle.std.specs.Prelude.{◌≡◌};
 ghost use Rattle.text.specs.Numerals.{unsigned_of};
 ghost use Rattle.grammar.specs.Grammar.{leaving, unsigned_in};

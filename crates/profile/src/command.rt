@@ -36,7 +36,7 @@ impl Command {
     }
 }
 
-// Bit 7 of a controlword, which resets a fault where it rises.
+// Bit 7 of a controlword, which resets a fault where it rises. A controlword holds more, so this is no conversion.
 #[tactic(auto, unfolding(crate::specs::Commands::reset_bit))]
 pub fn reset_bit(controlword: u16) -> bool
     ensures { result ≡ reset_bit controlword }

@@ -1,4 +1,5 @@
-// What a line of the bench part says.
+// What a line of the bench part says. Small numbers are cast from wider ones, since one function for every type would
+// have no equation for its clause; the heap comes beside the words, since most that is taken from them needs none.
 ghost use Rattle.std.specs.Prelude.{◌≡◌};
 ghost use Rattle.grammar.specs.Grammar.{leaving, UnlessNoMemory};
 ghost use Rattle.scenario.specs.Directives.{drive_in, mode_in, record_in, target_in, operation_in, arguments_in, line_says};
@@ -14,7 +15,7 @@ use grammar::wrong::Wrong;
 use lines::words::Words;
 use std::alloc::Global;
 
-// An operation on a drive, with what it is given.
+// An operation on a drive, with what it is given: data of a line, which the bench carries out.
 #[derive(Clone, Copy)]
 pub enum Operation {
     Energise,
@@ -90,7 +91,8 @@ fn take_arguments(heap: Global, keyword: Keyword, words: &mut Words<'_>) -> Resu
     }
 }
 
-// What a line says: a directive, nothing where it has no word, or what is wrong with it.
+// What a line says: a directive, nothing where it has no word, or what is wrong with it. (The cabinet part has a function
+// of this shape, and passes over another name: two short functions, and no third over both.)
 #[tactic(auto, unfolding(grammar::specs::Grammar::ended))]
 pub fn read_directive(heap: Global, line: &[u8]) -> Result<Option<Directive>, Wrong>
     ensures { UnlessNoMemory (heard_line result) (line_says line.now) }

@@ -7,7 +7,7 @@ use drives::held::Held;
 use drives::target::{Refusal, Target};
 
 // What stands above a drive: it may keep targets out, and says how a refusal from below is seen. The position is what
-// the drive holds, the target what a caller gives: they meet in these questions alone.
+// the drive holds, the target what a caller gives: they meet only in questions.
 pub trait Guard {
     ghost keeps_out: { Self → KeepsOut };
 
