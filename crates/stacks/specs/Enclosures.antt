@@ -3,6 +3,7 @@ use Rattle.std.specs.Prelude.{Bool, List, ℤ, Option, fold}
 use Rattle.std.specs.List.{list_any}
 use Rattle.drives.specs.declared.target.Target.{Target}
 use Rattle.drives.specs.declared.target.Refusal.{Refusal}
+use Rattle.drives.specs.Refusals.{deepened}
 use Rattle.drives.specs.Meaning.{DriveMeaning}
 use Rattle.windows.specs.declared.window.Limits.{Limits}
 use Rattle.windows.specs.declared.guard.Guarded.{Guarded}
@@ -20,6 +21,10 @@ any_keeps_out windows position target = list_any (λ limits. keeps_out limits po
 -- The refusal with all of them above, each above those within it.
 abbrev pub refusal_above_all : List Limits → ℤ → Target → Option Refusal → Option Refusal
 refusal_above_all windows position target below = fold (λ r limits. refusal_above limits position target r) below windows
+
+-- A refusal from below that none of them keeps to itself: each window deepens it.
+abbrev pub deepened_by_all : List Limits → Refusal → Refusal
+deepened_by_all windows refusal = fold (λ r limits. deepened r) refusal windows
 
 -- The windows together as one guard.
 abbrev pub stacked : DriveMeaning → List Limits → DriveMeaning

@@ -1,8 +1,8 @@
 // Any number of windows over a drive.
 ghost use Rattle.std.specs.Prelude.{◌≡◌};
 ghost use Rattle.drives.specs.Meaning.{DriveMeaning};
-ghost use Rattle.stacks.specs.Enclosures.{enclosed, stacked, any_keeps_out, refusal_above_all};
-ghost use Rattle.stacks.specs.Enclosed.{windows_refuse_exactly};
+ghost use Rattle.stacks.specs.Enclosures.{enclosed, stacked, any_keeps_out, refusal_above_all, deepened_by_all};
+ghost use Rattle.stacks.specs.Enclosed.{windows_refuse_exactly, windows_refuse_alone, windows_pass_on};
 
 use drives::target::{Refusal, Target};
 use windows::guard::{Guard, Guarded};
@@ -20,7 +20,7 @@ impl Enclosure {
     #[tactic(auto, using(crate::specs::Enclosed::stacked_is_enclosed))]
     pub fn new(windows: Vec<Limits>) -> Enclosure
         ensures given { result ≡ record { windows = windows } }
-        ensures one_over_the_other { (drive : DriveMeaning) → stacked drive windows.items ≡ enclosed drive windows.items }
+        ensures one_over_the_other { (drive : DriveMeaning) → stacked drive result.windows.items ≡ enclosed drive windows.items }
     {
         Enclosure { windows }
     }
@@ -31,7 +31,13 @@ impl Guard for Enclosure {
 
     ghost above = { λ e. refusal_above_all e.windows.items };
 
+    ghost deepens = { λ e. deepened_by_all e.windows.items };
+
     ghost refuses_exactly = { λ e. windows_refuse_exactly e.windows.items };
+
+    ghost refuses_alone = { λ e. windows_refuse_alone e.windows.items };
+
+    ghost passes_on = { λ e. windows_pass_on e.windows.items };
 
     fn keep_out(&self, position: i32, target: Target) -> bool {
         self.windows
@@ -48,6 +54,12 @@ impl Guard for Enclosure {
         self.windows.iter().fold(below, |refusal, limits| {
             limits.refusal_above(position, target, refusal)
         })
+    }
+
+    fn deepened(&self, refusal: Refusal) -> Refusal {
+        self.windows
+            .iter()
+            .fold(refusal, |refusal, limits| limits.deepened(refusal))
     }
 }
 

@@ -1,5 +1,5 @@
 -- A drive below a guard, which may keep targets out and says how a refusal from below is seen.
-use Rattle.std.specs.Prelude.{◌≡◌, Bool, true, false, not, ◌&&◌, ◌||◌, ℤ, pos, is_some, Option, refl}
+use Rattle.std.specs.Prelude.{◌≡◌, Bool, true, false, not, ◌&&◌, ◌||◌, ℤ, pos, is_some, Option, Some, None, refl}
 use Rattle.std.proofs.Common.{◌∙◌, ap}
 use Rattle.std.proofs.Math.Bool.{and-false}
 use Rattle.std.proofs.lemmas.Bool.{and_parts}
@@ -15,11 +15,27 @@ KeepsOut = ℤ → Target → Bool
 abbrev pub RefusalAbove : Type 0
 RefusalAbove = ℤ → Target → Option Refusal → Option Refusal
 
+-- The refusal from below of what is not kept out, as it is seen above.
+abbrev pub Deepens : Type 0
+Deepens = Refusal → Refusal
+
 -- A target is refused above exactly where it is kept out or refused below.
 abbrev pub RefusesExactly : KeepsOut → RefusalAbove → Type 0
 RefusesExactly out above =
     (position : ℤ) (target : Target) (below : Option Refusal)
     → is_some (above position target below) ≡ (out position target || is_some below)
+
+-- What is kept out is refused alike whatever is refused below.
+abbrev pub RefusesAlone : KeepsOut → RefusalAbove → Type 0
+RefusesAlone out above =
+    (position : ℤ) (target : Target) (below : Option Refusal)
+    → out position target ≡ true → above position target below ≡ above position target None
+
+-- What is not kept out is refused as it is below, and its refusal is deepened.
+abbrev pub PassesOn : KeepsOut → RefusalAbove → Deepens → Type 0
+PassesOn out above deepens =
+    (position : ℤ) (target : Target) (refusal : Refusal)
+    → out position target ≡ false → above position target (Some refusal) ≡ Some (deepens refusal)
 
 abbrev pub guarded_make : KeepsOut → RefusalAbove → Make → Make
 guarded_make out above below =

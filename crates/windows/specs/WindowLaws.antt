@@ -8,7 +8,7 @@ use Rattle.drives.specs.Refusals.{deepened}
 use Rattle.drives.specs.declared.target.Target.{Target}
 use Rattle.drives.specs.Holdings.{taken_held, answered}
 use Rattle.drives.specs.Meaning.{Make, Lawful, DriveMeaning, now_holding, taken, take_answer, refused_by}
-use Rattle.windows.specs.Guards.{RefusesExactly, guarded_lawful}
+use Rattle.windows.specs.Guards.{RefusesExactly, RefusesAlone, PassesOn, guarded_lawful}
 use Rattle.windows.specs.Windows.{keeps_out, refusal_above, window_make, windowed}
 
 refused_above :
@@ -20,6 +20,12 @@ refused_above false r (Some x) = refl
 
 pub limits_refuse_exactly : (limits : Limits) → RefusesExactly (keeps_out limits) (refusal_above limits)
 limits_refuse_exactly limits position target below = refused_above (keeps_out limits position target) _ below
+
+pub limits_refuse_alone : (limits : Limits) → RefusesAlone (keeps_out limits) (refusal_above limits)
+limits_refuse_alone limits position target below out = rw out refl
+
+pub limits_pass_on : (limits : Limits) → PassesOn (keeps_out limits) (refusal_above limits) deepened
+limits_pass_on limits position target refusal passes = rw passes refl
 
 pub window_lawful : (limits : Limits) (below : Make) → Lawful below → Lawful (window_make limits below)
 window_lawful limits below law = guarded_lawful (keeps_out limits) (refusal_above limits) (limits_refuse_exactly limits) below law

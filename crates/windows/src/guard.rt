@@ -1,6 +1,6 @@
 // Drives below a guard.
 ghost use Rattle.std.specs.Prelude.{◌≡◌};
-ghost use Rattle.windows.specs.Guards.{KeepsOut, RefusalAbove, RefusesExactly, guarded, guarded_lawful};
+ghost use Rattle.windows.specs.Guards.{KeepsOut, RefusalAbove, Deepens, RefusesExactly, RefusesAlone, PassesOn, guarded, guarded_lawful};
 
 use drives::drive::{Drive, RECORD_LENGTH};
 use drives::held::Held;
@@ -12,6 +12,8 @@ pub trait Guard {
     ghost keeps_out: { Self → KeepsOut };
 
     ghost above: { Self → RefusalAbove };
+
+    ghost deepens: { Self → Deepens };
 
     // Whether the target is kept out at a held position.
     fn keep_out(&self, position: i32, target: Target) -> bool
@@ -26,7 +28,15 @@ pub trait Guard {
     ) -> Option<Refusal>
         ensures { result ≡ above self.now position target below };
 
+    // A refusal from below of what is not kept out.
+    fn deepened(&self, refusal: Refusal) -> Refusal
+        ensures { result ≡ deepens self.now refusal };
+
     ghost refuses_exactly: { (g : Self) → RefusesExactly (keeps_out g) (above g) };
+
+    ghost refuses_alone: { (g : Self) → RefusesAlone (keeps_out g) (above g) };
+
+    ghost passes_on: { (g : Self) → PassesOn (keeps_out g) (above g) (deepens g) };
 }
 
 // A drive below a guard, and itself a drive. What the guard lets pass goes down to the drive below.
@@ -65,12 +75,15 @@ impl<G: Guard, D: Drive> Drive for Guarded<G, D> {
         self.below.sample(record);
     }
 
-    // Asks before it takes: to ask on the way down would owe a law that a guard which keeps out answers whatever is below.
+    // Each guard is asked once on the way down: what it keeps out is refused whatever the drive below says.
     fn take(&mut self, target: Target) -> Result<(), Refusal> {
-        match self.refusal(target) {
-            Some(refusal) => Err(refusal),
-            None => self.below.take(target),
+        let position = self.below.held().position;
+        if let Some(refusal) = self.guard.refusal_above(position, target, None) {
+            return Err(refusal);
         }
+        self.below
+            .take(target)
+            .map_err(|refusal| self.guard.deepened(refusal))
     }
 
     fn held(&self) -> Held {

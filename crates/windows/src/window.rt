@@ -1,7 +1,8 @@
 // Windows: limits around any drive.
 ghost use Rattle.std.specs.Prelude.{◌≡◌};
+ghost use Rattle.drives.specs.Refusals.{deepened};
 ghost use Rattle.windows.specs.Windows.{keeps_out, refusal_above};
-ghost use Rattle.windows.specs.WindowLaws.{limits_refuse_exactly};
+ghost use Rattle.windows.specs.WindowLaws.{limits_refuse_exactly, limits_refuse_alone, limits_pass_on};
 
 use crate::guard::{Guard, Guarded};
 use drives::drive::{Drive, POSITION_MODE, VELOCITY_MODE};
@@ -25,7 +26,13 @@ impl Guard for Limits {
 
     ghost above = { refusal_above };
 
+    ghost deepens = { λ limits. deepened };
+
     ghost refuses_exactly = { limits_refuse_exactly };
+
+    ghost refuses_alone = { limits_refuse_alone };
+
+    ghost passes_on = { limits_pass_on };
 
     fn keep_out(&self, position: i32, target: Target) -> bool {
         match target.mode {
@@ -49,6 +56,10 @@ impl Guard for Limits {
             return Some(KEPT_OUT);
         }
         below.map(Refusal::deepened)
+    }
+
+    fn deepened(&self, refusal: Refusal) -> Refusal {
+        refusal.deepened()
     }
 }
 
