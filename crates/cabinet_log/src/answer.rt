@@ -4,7 +4,7 @@ ghost use Rattle.cabinet_log.specs.AnswerTexts.{build_text, bytes_text, cycle_te
 
 use cabinet::cycle::{Cycled, answer_number};
 use cabinet::request::AlAnswer;
-use drive_log::word::ShownWord;
+use drive_log::word::{ShownWord, hex_digit};
 use std::fmt;
 
 // A cabinet is built: how many axes it has, and its delay.
@@ -46,8 +46,10 @@ impl<'a> fmt::Display for ShownBytes<'a> {
     ghost output = { λ b. Some (bytes_text b.0.now) };
 
     fn fmt<W: fmt::Write>(&self, f: &mut fmt::Formatter<W>) -> fmt::Result {
-        for &byte in self.0 {
-            write!(f, "{byte:02x}")?;
+        for byte in self.0 {
+            let high = hex_digit(u16::from(*byte) / 16);
+            let low = hex_digit(u16::from(*byte));
+            write!(f, "{high}{low}")?;
         }
         Ok(())
     }
