@@ -55,7 +55,11 @@ impl<'a> Iterator for Words<'a> {
     ghost remaining = { item_count (λ words. words) };
 
     fn next(&mut self) -> Option<&'a [u8]> {
-        let start = self.rest.iter().position(|byte| !is_blank(*byte))?;
+        let Some(start) = self.rest.iter().position(|byte| !is_blank(*byte)) else {
+            // No later call looks at these blanks again.
+            self.rest = b"";
+            return None;
+        };
         let text = &self.rest[start..];
         let end = text.iter().position(|byte| is_blank(*byte));
         let (word, rest) = text.split_at(end.unwrap_or(text.len()));
