@@ -1,5 +1,5 @@
 -- The bank on the bench, and what a line makes of it.
-use Rattle.std.specs.Prelude.{◌≡◌, ℕ, ◌⊎◌, List, [], ◌∷◌, ◌++◌, length, Some, None, Ok, Err, codes, Option, Result}
+use Rattle.std.specs.Prelude.{◌≡◌, ℕ, ◌⊎◌, List, [], ◌∷◌, ◌++◌, length, Some, None, Ok, Err, vec_items, codes, Option, Result}
 use Rattle.text.specs.declared.fault.Fault.TheVariants.{NoMemory}
 use Rattle.grammar.specs.declared.wrong.Wrong.{Wrong}
 use Rattle.grammar.specs.declared.wrong.Wrong.TheVariants.{Word}
@@ -20,7 +20,7 @@ use Rattle.bench.specs.Texts.{line_text}
 use Rattle.bench.specs.Operations.{operated, operation_answer}
 
 abbrev pub bank_is : Row (Stack (MadeDrive AnyMake)) → List DriveMeaning
-bank_is bank = in_row stack_is bank
+bank_is bank = in_row stack_is (vec_items bank.drives)
 
 abbrev pub carried_out : Said → List DriveMeaning → List DriveMeaning
 carried_out (Declares drive) bank = with_drive bank drive
@@ -42,7 +42,7 @@ name_of (Operates number (Take target)) = codes "take"
 
 -- The drive that is spoken of. A drive that is declared takes the next number of the row, beyond the bank too.
 abbrev pub number_of : Said → Row (Stack (MadeDrive AnyMake)) → ℕ
-number_of (Declares drive) row = length row
+number_of (Declares drive) row = length (vec_items row.drives)
 number_of (Operates number operation) row = number
 
 abbrev pub answer_to : Said → List DriveMeaning → Option (Result (Unit {0}) Refusal)

@@ -9,26 +9,17 @@ use drives::drive::{Drive, RECORD_LENGTH};
 use drives::held::Held;
 use drives::target::{Refusal, Target};
 use std::alloc::{AllocFailed, Global};
-use std::marker::Model;
 
-// Drives in the order in which they came. The first 255 are the bank; no operation reaches the others.
+// Drives in the order in which they came. The first 255 are the bank; no operation reaches the others. No model: a clause
+// that says a row stays says so of its memory too.
 #[derive(Drop)]
 pub struct Row<D> {
     drives: Vec<D>,
 }
 
-// A row is the list of its drives.
-impl<D> Model for Row<D> {
-    ghost use Rattle.std.specs.Prelude.{List};
-
-    ghost Value = { List D };
-
-    ghost view = { λ row. row.drives.items };
-}
-
 impl<D: Drive> Row<D> {
     pub fn new(heap: Global) -> Row<D>
-        ensures { result ≡ [] }
+        ensures { result.drives.items ≡ [] }
     {
         Row {
             drives: Vec::new(heap),
@@ -37,15 +28,15 @@ impl<D: Drive> Row<D> {
 
     // How many drives stand in the row, those beyond the bank too.
     pub fn len(&self) -> usize
-        ensures { result ≡ length self.now }
+        ensures { result ≡ length self.now.drives.items }
     {
         self.drives.len()
     }
 
     // One drive more at the end, or the drive back where memory is wanting.
     pub fn push(&mut self, drive: D) -> Result<(), AllocFailed<D>>
-        ensures appended { self.new ≡ (if is_ok result then self.old ++ (drive ∷ []) else self.old) }
-        ensures joins_the_bank { in_row D.Drive.meaning self.new ≡ (if is_ok result then with_drive (in_row D.Drive.meaning self.old) (D.Drive.meaning drive) else in_row D.Drive.meaning self.old) }
+        ensures appended { self.new.drives.items ≡ (if is_ok result then self.old.drives.items ++ (drive ∷ []) else self.old.drives.items) }
+        ensures joins_the_bank { in_row D.Drive.meaning self.new.drives.items ≡ (if is_ok result then with_drive (in_row D.Drive.meaning self.old.drives.items) (D.Drive.meaning drive) else in_row D.Drive.meaning self.old.drives.items) }
         ensures handed_back { IfErr result (λ back. back.value ≡ drive) }
     {
         self.drives.push(drive)
@@ -53,7 +44,7 @@ impl<D: Drive> Row<D> {
 
     // The place in the row of a number of the bank, none beyond it.
     fn place(&self, number: u8) -> Option<usize>
-        ensures { PlaceIs D.Drive.meaning self.now number result }
+        ensures { PlaceIs D.Drive.meaning self.now.drives.items number result }
     {
         (number < self.count()).then_some(usize::from(number))
     }
@@ -62,11 +53,11 @@ impl<D: Drive> Row<D> {
 // Each method is a line over `place`. One that lends the drive by `&mut` would owe a clause on what it ends as, and no
 // contract of the ten would be shorter for it.
 impl<D: Drive> Bank for Row<D> {
-    ghost meanings = { λ b. in_row D.Drive.meaning b };
+    ghost meanings = { λ b. in_row D.Drive.meaning b.drives.items };
 
-    ghost lawful = { λ b. row_lawful D.Drive.meaning b D.Drive.lawful };
+    ghost lawful = { λ b. row_lawful D.Drive.meaning b.drives.items D.Drive.lawful };
 
-    ghost few = { λ b. row_few D.Drive.meaning b };
+    ghost few = { λ b. row_few D.Drive.meaning b.drives.items };
 
     // 255 at most.
     fn count(&self) -> u8 {

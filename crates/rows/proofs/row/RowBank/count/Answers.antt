@@ -12,4 +12,4 @@ pub returns : goal.returns
 returns g c =
     c.unwrap_or.ensures
     ∙ capped _ c.try_from.result (rw c.len.ensures at c.try_from.ensures)
-    ∙ row_count g.D.Drive.meaning c.args.self.now
+    ∙ row_count g.D.Drive.meaning c.args.self.now.drives.items
