@@ -33,6 +33,6 @@ impl State {
         ensures stands_in_the_table { result ≡ get_or patterns (state_number self) 0 }
         ensures told_apart { ToldApart self result }
     {
-        PATTERNS[self as usize]
+        PATTERNS[usize::from(u8::from(self))]
     }
 }
