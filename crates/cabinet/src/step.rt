@@ -21,6 +21,8 @@ pub enum AxisEvent<'a> {
 
 impl<B: Bank> Cabinet<B> {
     // One axis steps: its record is lent to the step, beside the bank.
+    // Inlined: a caller that brings one event needs that arm alone.
+    #[inline(always)]
     #[tactic(auto, unfolding(axes::specs::Steps::axis_under, axes::specs::Steps::drive_under))]
     pub(crate) fn step(&mut self, number: u8, event: AxisEvent<'_>)
         requires { number < 8 }
