@@ -18,10 +18,17 @@ fn print_line(rt: &HostRuntime, bench: &mut Bench, line: NumberedLine<'_>) -> an
 }
 
 fn main(rt: HostRuntime) -> anyhow::Result<()> {
-    let input = BufReader::new(rt.alloc(), rt.stdin())?;
+    let mut input = BufReader::new(rt.alloc(), rt.stdin())?;
     let mut bench = Bench::new(rt.alloc());
-    for (number, text) in (1..u64::MAX).zip(input.split(rt.alloc(), b'\n')) {
-        match text?.as_slice() {
+    let mut line = Vec::new(rt.alloc());
+    for number in 1..u64::MAX {
+        line.clear();
+        if input.read_until(b'\n', &mut line)? == 0 {
+            break;
+        }
+        // Not `split`: the last byte goes whether or not it is a newline, so that a case cut short is no other case.
+        line.truncate(line.len().saturating_sub(1));
+        match line.as_slice() {
             b"---" => bench = Bench::new(rt.alloc()),
             text => print_line(&rt, &mut bench, NumberedLine { number, text })?,
         }

@@ -6,10 +6,22 @@ use lines::numbered::NumberedLine;
 use replay::stage::Replay;
 use std::io::{BufRead, BufReader};
 
+// Reads the next line, without its last byte, the newline. Tells whether there is one. Not by `split`, which takes a last
+// line without a newline whole.
+fn read_line<R: BufRead>(input: &mut R, line: &mut Vec<u8>) -> anyhow::Result<bool> {
+    line.clear();
+    let length = input.read_until(b'\n', line)?;
+    line.truncate(length.saturating_sub(1));
+    Ok(length > 0)
+}
+
 // Passes over the rest of a scenario. Tells whether there is another after it.
-fn pass_over<R: BufRead>(rt: &HostRuntime, input: &mut R) -> anyhow::Result<bool> {
-    for line in input.split(rt.alloc(), b'\n') {
-        if let b"---" = line?.as_slice() {
+fn pass_over<R: BufRead>(input: &mut R, line: &mut Vec<u8>) -> anyhow::Result<bool> {
+    for _ in 0..u64::MAX {
+        if !read_line(input, line)? {
+            break;
+        }
+        if let b"---" = line.as_slice() {
             return Ok(true);
         }
     }
@@ -23,22 +35,22 @@ fn replay_one<R: BufRead>(rt: &HostRuntime, input: &mut R) -> anyhow::Result<boo
     let mut replay = Replay::new(heap);
     // Told at the end, since the log is closed first.
     let mut more = false;
-    for (number, text) in (1..u64::MAX).zip(input.by_ref().split(heap, b'\n')) {
-        let text = text?;
-        if let b"---" = text.as_slice() {
+    let mut line = Vec::new(heap);
+    for number in 1..u64::MAX {
+        if !read_line(input, &mut line)? {
+            break;
+        }
+        let text = line.as_slice();
+        if let b"---" = text {
             more = true;
             break;
         }
-        let line = NumberedLine {
-            number,
-            text: text.as_slice(),
-        };
-        replay = match replay.follow(heap, line, &mut log) {
+        replay = match replay.follow(heap, NumberedLine { number, text }, &mut log) {
             Ok(next) => next,
             Err(wrong) => {
                 rt.print(log.as_str())?;
                 println!(rt; "line {number}: {wrong}")?;
-                return pass_over(rt, input);
+                return pass_over(input, &mut line);
             }
         };
     }
