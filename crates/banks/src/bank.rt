@@ -56,7 +56,8 @@ pub trait Bank {
 pub fn de_energise_all<B: Bank>(bank: &mut B)
     ensures { B.meanings bank.new ≡ map de_energised (B.meanings bank.old) }
 {
-    for number in 0..bank.count() {
+    let count = bank.count();
+    for number in 0..count {
         bank.de_energise_at(number);
     }
 }

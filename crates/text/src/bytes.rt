@@ -21,5 +21,6 @@ pub fn bytes(heap: Global, word: &[u8]) -> Result<Vec<u8>, Fault>
     if !all_digits(word) {
         return Err(Fault::NotBytes);
     }
-    Ok(hex::decode(heap, word)?)
+    let bytes = hex::decode(heap, word)?;
+    Ok(bytes)
 }

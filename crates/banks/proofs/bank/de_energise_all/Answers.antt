@@ -10,7 +10,7 @@ loop-number-preserved g c =
     let before = g.B.Bank.meanings c.args.bank.now in
     let bank = g.B.Bank.meanings c.loop-number.bank in
     let i = c.loop-number.number in
-    let within : i < length before = omega (arith, c.count-number-end.ensures) in
+    let within : i < length before = omega (arith, c.count-count.ensures) in
     let within_now : i < length bank =
     omega (arith, simp (length-append, length-map, length-take, length-drop) at (ap length c.loop-number.invariant)) in
     c.de_energise_at.ensures
