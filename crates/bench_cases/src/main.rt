@@ -26,7 +26,7 @@ fn main(rt: HostRuntime) -> anyhow::Result<()> {
         if input.read_until(b'\n', &mut line)? == 0 {
             break;
         }
-        // Not `split`: the last byte goes whether or not it is a newline, so that a case cut short is no other case.
+        // Not `split`, which takes a last line without a newline whole: here its last byte goes, as every line's does.
         line.truncate(line.len().saturating_sub(1));
         match line.as_slice() {
             b"---" => bench = Bench::new(rt.alloc()),

@@ -6,8 +6,8 @@ use lines::numbered::NumberedLine;
 use replay::stage::Replay;
 use std::io::{BufRead, BufReader};
 
-// Reads the next line, without its last byte, the newline. Tells whether there is one. Not by `split`, which takes a last
-// line without a newline whole.
+// Reads the next line, without its last byte, which is the newline unless a last line has none. Tells whether there is
+// one. Not by `split`, which takes such a line whole.
 fn read_line<R: BufRead>(input: &mut R, line: &mut Vec<u8>) -> anyhow::Result<bool> {
     line.clear();
     let length = input.read_until(b'\n', line)?;

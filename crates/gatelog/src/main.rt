@@ -16,18 +16,25 @@ use std::process::ExitCode;
 // The log is written in pieces of about this many bytes.
 const PIECE: usize = 8192;
 
+// The line without the newline that ends it; the last one may have none.
+fn without_newline(line: &[u8]) -> &[u8] {
+    line.strip_suffix(b"\n").unwrap_or(line)
+}
+
 // Replays the scenario line by line. What is wrong with a line ends it, after everything up to the line before is written.
-fn replay_scenario(rt: &HostRuntime, input: impl BufRead + Drop) -> anyhow::Result<()> {
+// One vector serves all lines: `split` of the library makes one for each, and long lines can then take twice the memory.
+fn replay_scenario(rt: &HostRuntime, mut input: impl BufRead + Drop) -> anyhow::Result<()> {
     let heap = rt.alloc();
     let mut replay = Replay::new(heap);
     let mut log = String::new(heap);
-    for (number, text) in (1..u64::MAX).zip(input.split(heap, b'\n')) {
-        let text = text?;
-        let line = NumberedLine {
-            number,
-            text: text.as_slice(),
-        };
-        replay = match replay.follow(heap, line, &mut log) {
+    let mut line = Vec::new(heap);
+    for number in 1..u64::MAX {
+        line.clear();
+        if input.read_until(b'\n', &mut line)? == 0 {
+            break;
+        }
+        let text = without_newline(line.as_slice());
+        replay = match replay.follow(heap, NumberedLine { number, text }, &mut log) {
             Ok(next) => next,
             // The log goes out before the error, which `map_err` could not see to.
             Err(wrong) => {
