@@ -22,7 +22,7 @@ any_keeps_out windows position target = list_any (λ limits. keeps_out limits po
 abbrev pub refusal_above_all : List Limits → ℤ → Target → Option Refusal → Option Refusal
 refusal_above_all windows position target below = fold (λ r limits. refusal_above limits position target r) below windows
 
--- A refusal from below that none of them keeps to itself: each window deepens it.
+-- A refusal from below of a target that none of them keeps out: each window deepens it.
 abbrev pub deepened_by_all : List Limits → Refusal → Refusal
 deepened_by_all windows refusal = fold (λ r limits. deepened r) refusal windows
 

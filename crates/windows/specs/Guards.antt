@@ -31,7 +31,7 @@ RefusesAlone out above =
     (position : ℤ) (target : Target) (below : Option Refusal)
     → out position target ≡ true → above position target below ≡ above position target None
 
--- What is not kept out is refused as it is below, and its refusal is deepened.
+-- Where a target is not kept out, a refusal from below is seen deepened.
 abbrev pub PassesOn : KeepsOut → RefusalAbove → Deepens → Type 0
 PassesOn out above deepens =
     (position : ℤ) (target : Target) (refusal : Refusal)
